@@ -1,0 +1,4 @@
+pub mod Arrivals
+pub mod Folds
+pub mod Numbers
+pub mod Steps

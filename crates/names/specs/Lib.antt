@@ -1,0 +1,4 @@
+pub mod Labels
+pub mod Paths
+pub mod Same
+pub mod Stamps

@@ -1,0 +1,7 @@
+use mathlib.Core.Path.{refl}
+use Rattle.store.specs.Meaning.{empty-store}
+use Rattle.table.proofs.Table.new.Needs as need
+
+pub returns : need.returns
+unfolding empty-store
+returns g c = refl

@@ -1,0 +1,8 @@
+use names::Path;
+
+// Memory for one pair.
+#[derive(Clone, Copy)]
+pub struct TableSlot<K> {
+    pub path: Path,
+    pub entry: K,
+}

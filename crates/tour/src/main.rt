@@ -1,0 +1,14 @@
+// The tour: a real task carried through, with a note for each step of what was done and what is now held.
+mod notes;
+mod stores;
+
+use std::error::AnyError;
+
+fn run(rt: &LibcRuntime) -> Result<(), AnyError> {
+    stores::through_a_table(rt)?;
+    stores::through_a_log(rt)
+}
+
+fn main(rt: LibcRuntime) -> Result<(), AnyError> {
+    rt.report(run(&rt))
+}
