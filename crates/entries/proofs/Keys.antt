@@ -2,12 +2,11 @@
 use mathlib.Core.Path.{_≡_, refl, sym, ap, _∙_}
 use mathlib.Core.Bool.{Bool, true, false, cond}
 use mathlib.Core.List.{List, [], _∷_}
-use Prim.Native.Nat.{ℕ, zero, suc, _<_}
+use Prim.Native.Nat.{ℕ, zero, suc}
 use native.Mathlib.Omega.{arith}
-use lib.Dec.{eqb, ltb}
 use lib.ListN.{getD}
 use Rattle.std.proofs.shelf.Ways.{tells}
-use Rattle.std.proofs.shelf.Tests.{cond-true, cond-false, both-ways, eqb-true}
+use Rattle.std.proofs.shelf.Tests.{cond-true, cond-false, both-ways}
 use Rattle.entries.specs.declared.recipe.Content.{Content}
 use Rattle.entries.specs.declared.recipe.Content.the-variants.{Absent, Node, Number, Directory, Link}
 use Rattle.entries.specs.declared.recipe.Recipe.{Recipe}

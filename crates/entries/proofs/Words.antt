@@ -1,17 +1,16 @@
 -- What the join says of a role after a new word on it. Assumes nothing.
-use mathlib.Core.Path.{_≡_, refl, sym, ap, subst, _∙_}
+use mathlib.Core.Path.{_≡_, refl, sym, ap, _∙_}
 use mathlib.Core.Bool.{Bool, true, false, cond, _&&_}
-use Prim.Native.Nat.{ℕ, max, _+_, _*_, _%_, _^_, _<_, _≤_}
+use Prim.Native.Nat.{ℕ, _%_, _^_, _<_}
 use native.Mathlib.Omega.{arith}
 use lib.Dec.{eqb, ltb}
-use lib.ListN.{getD, set, replicate, length}
+use lib.ListN.{getD, set, replicate}
 use Rattle.std.proofs.shelf.Lists.{getD-set-same}
 use Rattle.std.proofs.shelf.Tests.{ltb-true, and-parts, eq-eqb, ne-eqb, both-ways}
 use Rattle.std.specs.Options.{isSome}
-use Rattle.std.specs.declared.option.Option.{Option}
 use Rattle.std.specs.declared.option.Option.the-variants.{Some, None}
 use Rattle.entries.specs.declared.rights.Rights.{Rights}
-use Rattle.entries.specs.Rights.{of-roles, greater, word, saying, join-rights, is-granted, LatestWordDecides}
+use Rattle.entries.specs.Rights.{of-roles, greater, word, LatestWordDecides}
 use Rattle.entries.proofs.Roles.{getD-greater}
 
 -- the number for a word is odd for a grant alone

@@ -28,9 +28,13 @@ abbrev pub greatest : List ℕ → ℕ
 greatest [] = 0
 greatest (x ∷ xs) = max x (greatest xs)
 
--- half the greatest number, rounded down
+-- the stamp of a role's number: half of it, rounded down
+abbrev pub stamp-in : ℕ → ℕ
+stamp-in n = n / 2
+
+-- that of the greatest number
 abbrev pub rights-stamp : Rights → ℕ
-rights-stamp a = greatest (a .roles) / 2
+rights-stamp a = stamp-in (greatest (a .roles))
 
 abbrev pub all-below : ℕ → List ℕ → Bool
 all-below n [] = true

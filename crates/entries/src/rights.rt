@@ -1,6 +1,9 @@
 ghost use mathlib.Core.Path.{_≡_};
 ghost use mathlib.Core.Bool.{true, false};
-ghost use Rattle.entries.specs.Rights.{blank-rights, join-rights, rights-stamp, sound-rights, saying, is-granted, LatestWordDecides};
+ghost use Prim.Native.Nat.{ℕ, max, _<_, _^_};
+ghost use lib.Dec.{ltb};
+ghost use lib.ListN.{getD};
+ghost use Rattle.entries.specs.Rights.{blank-rights, join-rights, stamp-in, rights-stamp, sound-rights, saying, is-granted, LatestWordDecides};
 use crate::kind::Dated;
 use crate::kind::Joinable;
 use names::Stamp;
@@ -48,6 +51,38 @@ impl Rights {
     }
 }
 
+// The greater of two numbers: of what was said of one role, the last word.
+fn greater(a: u64, b: u64) -> u64
+    ensures { λ r. ⌜ r ≡ max a b ⌝ }
+{
+    if a < b { b } else { a }
+}
+
+// The greater of two numbers for each role.
+fn greater_of_each(a: [u64; 8], b: [u64; 8]) -> [u64; 8]
+    ensures { λ r. ⌜ ((k : ℕ) → k < 8 → getD r k 0 ≡ max (getD a k 0) (getD b k 0)) ⌝ }
+{
+    let mut roles = [0; 8];
+    'roles: for i in 0..8 {
+        roles[i] = greater(a[i], b[i]);
+    }
+    roles
+}
+
+// Whether a sound entry may have the number for a role.
+fn is_role_number(number: u64) -> bool
+    ensures { λ r. ⌜ r ≡ ltb number (2 ^ 41) ⌝ }
+{
+    number < 1 << 41
+}
+
+// The stamp of the word that a role's number says.
+fn stamp_in(number: u64) -> Stamp
+    ensures { λ r. ⌜ r ≡ stamp-in number ⌝ }
+{
+    number / 2
+}
+
 pub impl Joinable for Rights as RightsJoinable {
     ghost empty = { blank-rights };
 
@@ -58,13 +93,9 @@ pub impl Joinable for Rights as RightsJoinable {
     }
 
     fn join(self, other: Rights) -> Rights {
-        let mut roles = self.roles;
-        'roles: for i in 0..8 {
-            if roles[i] < other.roles[i] {
-                roles[i] = other.roles[i];
-            }
+        Rights {
+            roles: greater_of_each(self.roles, other.roles),
         }
-        Rights { roles }
     }
 }
 
@@ -76,16 +107,14 @@ pub impl Dated for Rights as RightsDated {
     fn stamp(&self) -> Stamp {
         let mut greatest = 0;
         'roles: for role in self.roles {
-            if greatest < role {
-                greatest = role;
-            }
+            greatest = greater(greatest, role);
         }
-        greatest / 2
+        stamp_in(greatest)
     }
 
     fn is_sound(&self) -> bool {
         'roles: for role in self.roles {
-            if role >= 1 << 41 {
+            if !is_role_number(role) {
                 return false;
             }
         }

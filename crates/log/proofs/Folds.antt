@@ -49,24 +49,25 @@ module _ {K : Type 0} (join : K → K → K) (n : ℕ) (from : List (LogSlot K))
   turn-long : length (map pair-of (take f ss)) ≡ f
   turn-long = view-length pair-of f ss (omega (arith, inv .0))
 
-  pub fold-held : (old : LogSlot K) (v : K) → old ≡ getD ss (slot .place) old → slot .place < f → v ≡ join (old .entry) (slot .entry) → Folded join from (set ss (slot .place) (record { path = old .path; entry = v; place = old .place })) f (i + 1)
-  fold-held old v is low made =
+  pub fold-held : (old new : LogSlot K) → slot .place < f → old ≡ getD ss (slot .place) old → new .path ≡ old .path → new .entry ≡ join (old .entry) (slot .entry) → new .place ≡ old .place → Folded join from (set ss (slot .place) new) f (i + 1)
+  fold-held old new low read′ path entry place =
       let ps = map pair-of (take f ss) in
       let m = slot .place in
       let p = slot .path in
       let e = slot .entry in
-      let new : LogSlot K = record { path = old .path; entry = v; place = old .place } in
       let held = step-held join ps p e m turn-at (omega (arith, turn-long)) in
-      let here : getD ps m (pair-of old) ≡ pair-of old = view-here pair-of f ss m old (omega (arith, inv .0)) low ∙ ap pair-of (sym is) in
+      let is : _≡_ {A = Path × K} (pair-of new) (getD ss m old .path, join (getD ss m old .entry) e) = cc in
       let pairs : map pair-of (take f (set ss m new)) ≡ join-pairs join ps p e =
       view-set pair-of f ss m new low
-      ∙ ap (λ x. set ps m (old .path, x)) made
-      ∙ ap (λ (x : Path × K). set ps m (x .0, join (x .1) e)) (sym here)
+      ∙ ap (set ps m) is
+      ∙ ap (λ (x : Path × K). set ps m (x .0, join (x .1) e)) (sym (view-here pair-of f ss m old (omega (arith, inv .0)) low))
       ∙ sym (join-held join ps p e m (pair-of old) held) in
       let qs = with-path (paths-of ps) p in
       let paths : paths-of (map pair-of (take f (set ss m new))) ≡ qs = ap paths-of pairs ∙ join-paths join ps p e in
       let rows = placed-with-path (paths-of ps) (take f ss) p (inv .2) in
-      let at : place-in qs (old .path) ≡ Some (old .place) = subst (λ (x : LogSlot K). place-in qs (x .path) ≡ Some (x .place)) (getD-take f ss m old low ∙ sym is) (placed-at qs (take f ss) m old rows (omega (arith, length-take-le f ss (omega (arith, inv .0))))) in (
+      let there = placed-at qs (take f ss) m old rows (omega (arith, length-take-le f ss (omega (arith, inv .0)))) in
+      let here : getD (take f ss) m old ≡ getD ss m old = getD-take f ss m old low in
+      let at : place-in qs (new .path) ≡ Some (new .place) = cc in (
         omega (arith, inv .0),
         pairs ∙ turn-next,
         ap (λ xs. placed xs (take f (set ss m new))) paths ∙ ap (placed qs) (take-set-lt f ss m new low) ∙ placed-set qs (take f ss) m new rows at,

@@ -1,27 +1,31 @@
 -- What each call of a log rests on: one more slot, and the slots so far. Assumes nothing.
 use mathlib.Core.Path.{_≡_, refl, sym, ap, subst, _∙_}
-use mathlib.Core.Bool.{Bool, true, false, cond}
+use mathlib.Core.Bool.{Bool, true, false, cond, _||_}
 use mathlib.Core.List.{List, [], _∷_, _++_, map}
 use mathlib.Core.Logic.{_⊎_, inl, inr, ⊎-elim}
-use Prim.Native.Nat.{ℕ, zero, suc, _+_, _<_, _≤_}
+use Prim.Native.Nat.{ℕ, zero, suc, _+_, _/_, _<_, _≤_}
 use native.Mathlib.Omega.{arith}
-use lib.Dec.{ltb}
-use lib.ListN.{length, getD, set, take, drop}
-use Rattle.std.proofs.shelf.Tests.{ltb-true, ltb-false, cond-true, cond-false, both-ways, lt-ltb, le-ltb, cases-lt}
-use Rattle.std.proofs.shelf.Lists.{take-append-drop, take-take, getD-take, getD-append-left, getD-push, getD-set-same, getD-set-other, length-push, getD-past, length-set, map-append, length-take-le}
-use Rattle.std.specs.Options.{isSome}
+use denote.Ref.{now}
+use lib.Dec.{eqb}
+use lib.ListN.{length, getD, take, drop}
+use Rattle.std.proofs.shelf.Tests.{cond-true, cond-false, both-ways, and-parts, eqb-false, cases-lt}
+use Rattle.std.proofs.shelf.Lists.{take-append-drop, take-take, getD-take, length-push, map-append, length-take-le}
+use Rattle.std.specs.Options.{isSome, mapped, valueOr}
+use Rattle.std.specs.declared.option.Option.{Option}
 use Rattle.std.specs.declared.option.Option.the-variants.{Some, None}
 use Rattle.names.specs.declared.path.Path.{Path}
 use Rattle.names.specs.Paths.{same-path, no-path}
-use Rattle.names.specs.Same.{same-is}
-use Rattle.store.specs.Meaning.{paths-of, entries-of, path-in, entry-in, among, distinct, place-in, join-pairs}
+use Rattle.names.specs.Same.{same-is, same-refl}
+use Rattle.store.specs.Meaning.{Meaning, count-of, place-of, full-for, paths-of, path-in, entry-in, among, distinct, place-in, join-pairs}
+use Rattle.store.specs.Laws.{onto}
 use Rattle.store.specs.Joins.{length-paths, join-paths}
 use Rattle.store.proofs.Places.{none-is, among-is, among-here, among-none, place-own, place-push, place-stands}
-use Rattle.store.proofs.Pairs.{join-held, join-new, length-entries, entry-here, entry-past, path-past, held-among, new-among}
+use Rattle.store.proofs.Pairs.{path-past, held-among, new-among, held-not-full, new-full}
 use Rattle.store.proofs.Views.{view-length, view-path, view-more}
+use Rattle.log.specs.declared.Log.{Log}
 use Rattle.log.specs.declared.slot.LogSlot.{LogSlot}
-use Rattle.log.specs.Slots.{pair-of, joined-to, log-pairs, with-path, with-paths, arrivals, placed}
-use Rattle.log.specs.Logs.{joined-paths, joined-distinct}
+use Rattle.log.specs.Slots.{pair-of, joined-to, log-pairs, with-path, with-paths, arrivals, is-place, placed, place-under, seat}
+use Rattle.log.specs.Logs.{log-meaning, log-sound, joined-paths, joined-distinct, pairs-length}
 use Rattle.log.proofs.Arrivals.{among-with-paths, with-paths-append, place-with-paths}
 use Rattle.log.proofs.Numbers.{placed-at, joined-append, paths-append}
 
@@ -45,91 +49,124 @@ module _ {K : Type 0} (join : K → K → K) (ps : List (Path × K)) (p : Path) 
   pub step-new : length ps ≤ m → (among (paths-of ps) p ≡ false) × (m ≡ length ps)
   step-new le = ⊎-elim (λ h. absurd (let s = place-stands (paths-of ps) p m h in omega (arith, s .low, length-paths ps))) (λ h. h) step-ways
 
-entries-set : {K : Type 0} (ps : List (Path × K)) (k : ℕ) (x : Path × K) → entries-of (set ps k x) ≡ set (entries-of ps) k (x .1)
-entries-set [] k x = refl
-entries-set (y ∷ ys) zero x = refl
-entries-set (y ∷ ys) (suc k) x = ap (λ es. y .1 ∷ es) (entries-set ys k x)
+-- the entry at a place, if the list has that place
+abbrev pub held-at : {K : Type 0} → List (Path × K) → ℕ → Option K
+held-at [] k = None
+held-at (x ∷ xs) zero = Some (x .1)
+held-at (x ∷ xs) (suc k) = held-at xs k
 
-entries-push : {K : Type 0} (ps : List (Path × K)) (x : Path × K) → entries-of (ps ++ x ∷ []) ≡ entries-of ps ++ x .1 ∷ []
-entries-push [] x = refl
-entries-push (y ∷ ys) x = ap (λ es. y .1 ∷ es) (entries-push ys x)
+pub held-value : {K : Type 0} (b : K) (ps : List (Path × K)) (k : ℕ) → valueOr (held-at ps k) b ≡ entry-in b ps k
+held-value b [] k = refl
+held-value b (x ∷ xs) zero = refl
+held-value b (x ∷ xs) (suc k) = held-value b xs k
 
-module _ {K : Type 0} (join : K → K → K) (b : K) (ps : List (Path × K)) (p : Path) (e : K) (m : ℕ) (at : place-in (paths-of (join-pairs join ps p e)) p ≡ Some m) where
-  pub entry-held : m < length ps → entry-in b (join-pairs join ps p e) m ≡ join (entry-in b ps m) e
-  entry-held lt =
-      ap (λ xs. entry-in b xs m) (join-held join ps p e m (p, b) (step-held join ps p e m at lt))
-      ∙ ap (λ es. getD es m b) (entries-set ps m _)
-      ∙ getD-set-same (entries-of ps) m _ b (omega (arith, length-entries ps))
-      ∙ ap (λ v. join v e) (sym (entry-here b ps m (p, b) lt))
+-- a pair joined changes the entry at the place of its path, and no other
+module _ {K : Type 0} (join : K → K → K) (p : Path) (e : K) where
+  abbrev Joined-at : List (Path × K) → List (Path × K) → ℕ → Type 0
+  Joined-at ps qs m = (held-at qs m ≡ Some (onto join (held-at ps m) e)) × ((k : ℕ) → (k ≡ m → ⊥) → held-at qs k ≡ held-at ps k)
 
-  pub entry-new : length ps ≤ m → entry-in b (join-pairs join ps p e) m ≡ e
-  entry-new le =
-      let w = step-new join ps p e m at le in
-      ap (λ xs. entry-in b xs m) (join-new join ps p e (w .0)) ∙ ap (λ es. getD es m b) (entries-push ps (p, e)) ∙ getD-push (entries-of ps) e b m (length-entries ps ∙ sym (w .1))
-
-  pub entry-other : (k : ℕ) → (k ≡ m → ⊥) → entry-in b (join-pairs join ps p e) k ≡ entry-in b ps k
-  entry-other k ne =
-      ⊎-elim
-      (λ h. ap (λ xs. entry-in b xs k) (join-held join ps p e m (p, b) h) ∙ ap (λ es. getD es k b) (entries-set ps m _) ∙ getD-set-other (entries-of ps) m k _ b ne)
-      (λ h. ap (λ xs. entry-in b xs k) (join-new join ps p e (h .0)) ∙ ap (λ es. getD es k b) (entries-push ps (p, e)) ∙ pushed (h .1))
-      (step-ways join ps p e m at)
+  first-joined : (ps : List (Path × K)) (q : Path) (v : K) → onto join (held-at ps 0) e ≡ v → ((k : ℕ) → held-at (drop 1 ps) k ≡ held-at ps (suc k)) → Joined-at ps ((q, v) ∷ drop 1 ps) 0
+  first-joined ps q v made rest = (ap Some (sym made), others)
     where
-      pushed : m ≡ length ps → getD (entries-of ps ++ e ∷ []) k b ≡ getD (entries-of ps) k b
-      pushed h =
-          ⊎-elim
-          (λ lt. getD-append-left (entries-of ps) (e ∷ []) b k lt)
-          (λ le. getD-past (entries-of ps ++ e ∷ []) k b (omega (arith, length-push (entries-of ps) e, length-entries ps)) ∙ sym (getD-past (entries-of ps) k b le))
-          (cases-lt k (length (entries-of ps)))
+      others : (k : ℕ) → (k ≡ 0 → ⊥) → held-at ((q, v) ∷ drop 1 ps) k ≡ held-at ps k
+      others zero ne = absurd (ne refl)
+      others (suc k) ne = rest k
 
-  pub step-length : length (join-pairs join ps p e) ≡ cond (ltb m (length ps)) (length ps) (length ps + 1)
-  step-length =
-      ⊎-elim
-      (λ lt. ap length (join-held join ps p e m (p, b) (step-held join ps p e m at lt)) ∙ length-set ps m _ ∙ sym (cond-true _ _ _ (lt-ltb _ _ lt)))
-      (λ le. ap length (join-new join ps p e (step-new join ps p e m at le .0)) ∙ length-push ps (p, e) ∙ sym (cond-false _ _ _ (le-ltb _ _ le)))
-      (cases-lt m (length ps))
-
--- the entry at k, as a walk over the pairs has it: q is the row after the step
-module _ {K : Type 0} (join : K → K → K) (b : K) (ps qs : List (Path × K)) (p : Path) (e : K) (m : ℕ) (at : place-in (paths-of (join-pairs join ps p e)) p ≡ Some m) (next : qs ≡ join-pairs join ps p e) (k : ℕ) where
-  length-next : length qs ≡ cond (ltb m (length ps)) (length ps) (length ps + 1)
-  length-next = ap length next ∙ step-length join b ps p e m at
-
-  pub walk-found : (v : K) → m ≡ k → v ≡ entry-in b ps k → ltb k (length ps) ≡ true → (join v e ≡ entry-in b qs k) × (true ≡ ltb k (length qs))
-  walk-found v mk ev h =
-      let lt : m < length ps = subst (λ n. n < length ps) (sym mk) (ltb-true k (length ps) h) in
-      let same : length qs ≡ length ps = length-next ∙ cond-true _ _ _ (lt-ltb _ _ lt) in
-      (sym (ap (λ xs. entry-in b xs k) next ∙ ap (entry-in b (join-pairs join ps p e)) (sym mk) ∙ entry-held join b ps p e m at lt ∙ ap (λ n. join (entry-in b ps n) e) mk ∙ ap (λ x. join x e) (sym ev)), sym (ap (ltb k) same ∙ h))
-
-  pub walk-first : m ≡ k → ltb k (length ps) ≡ false → (e ≡ entry-in b qs k) × (true ≡ ltb k (length qs))
-  walk-first mk h =
-      let le : length ps ≤ m = subst (λ n. length ps ≤ n) (sym mk) (ltb-false k (length ps) h) in
-      let long : length qs ≡ length ps + 1 = length-next ∙ cond-false _ _ _ (le-ltb _ _ le) in
-      let end = step-new join ps p e m at le .1 in
-      (sym (ap (λ xs. entry-in b xs k) next ∙ ap (entry-in b (join-pairs join ps p e)) (sym mk) ∙ entry-new join b ps p e m at le), sym (lt-ltb k (length qs) (omega arith)))
-
-  pub walk-passed : (v : K) → (m ≡ k → ⊥) → v ≡ entry-in b ps k → (v ≡ entry-in b qs k) × (ltb k (length ps) ≡ ltb k (length qs))
-  walk-passed v ne ev = (ev ∙ sym (ap (λ xs. entry-in b xs k) next ∙ entry-other join b ps p e m at k (λ h. ne (sym h))), sym kept)
+  later-joined : (x : Path × K) (ps qs : List (Path × K)) (m : ℕ) → Joined-at ps qs m → Joined-at (x ∷ ps) (x ∷ qs) (suc m)
+  later-joined x ps qs m h = (h .0, others)
     where
-      kept : ltb k (length qs) ≡ ltb k (length ps)
-      kept =
-          ⊎-elim
-          (λ lt. ap (ltb k) (length-next ∙ cond-true _ _ _ (lt-ltb _ _ lt)))
-          (λ le. let long : length qs ≡ length ps + 1 = length-next ∙ cond-false _ _ _ (le-ltb _ _ le) in let end = step-new join ps p e m at le .1 in
-          ⊎-elim (λ lt. lt-ltb k (length qs) (omega arith) ∙ sym (lt-ltb k (length ps) lt)) (λ past. le-ltb k (length qs) (omega arith) ∙ sym (le-ltb k (length ps) past)) (cases-lt k (length ps)))
-          (cases-lt m (length ps))
+      others : (k : ℕ) → (k ≡ suc m → ⊥) → held-at (x ∷ qs) k ≡ held-at (x ∷ ps) k
+      others zero ne = refl
+      others (suc k) ne = h .1 k (λ z. ne (ap suc z))
 
--- what a path held, and a new one, add to the paths
-module _ {K : Type 0} (ps : List (Path × K)) (p : Path) where
-  pub grown-held : (k : ℕ) → Some k ≡ place-in (paths-of ps) p → (place-in (with-path (paths-of ps) p) p ≡ Some k) × (length (with-path (paths-of ps) p) ≡ length ps) × (k < length ps)
-  grown-held k f =
-      let g : with-path (paths-of ps) p ≡ paths-of ps = cond-true _ _ _ (held-among ps p k f) in
-      let s = place-stands (paths-of ps) p k (sym f) in
-      (ap (λ qs. place-in qs p) g ∙ sym f, ap length g ∙ length-paths ps, omega (arith, s .low, length-paths ps))
+  pub joined-at : (ps : List (Path × K)) (m : ℕ) → place-in (paths-of (join-pairs join ps p e)) p ≡ Some m → Joined-at ps (join-pairs join ps p e) m
+  joined-at [] m at =
+      let z : _≡_ {A = Option ℕ} (Some 0) (Some m) = sym (cond-true _ _ _ (same-refl p)) ∙ at in
+      let z0 : 0 ≡ m = cc in
+      subst (Joined-at [] ((p, e) ∷ [])) z0 (first-joined [] p e refl (λ k. refl))
+  joined-at (x ∷ xs) m at = go (joined-at xs) (same-path (x .0) p) refl (place-in (paths-of (join-pairs join xs p e)) p) refl at
+    where
+      go : ((k : ℕ) → place-in (paths-of (join-pairs join xs p e)) p ≡ Some k → Joined-at xs (join-pairs join xs p e) k) → (b : Bool) → same-path (x .0) p ≡ b → (o : Option ℕ) → place-in (paths-of (join-pairs join xs p e)) p ≡ o → place-in (paths-of (cond b ((x .0, join (x .1) e) ∷ xs) (x ∷ join-pairs join xs p e))) p ≡ Some m → Joined-at (x ∷ xs) (cond b ((x .0, join (x .1) e) ∷ xs) (x ∷ join-pairs join xs p e)) m
+      go ih true h o f at =
+          let z : _≡_ {A = Option ℕ} (Some 0) (Some m) = sym (cond-true _ _ _ h) ∙ at in
+          let z0 : 0 ≡ m = cc in
+          subst (Joined-at (x ∷ xs) ((x .0, join (x .1) e) ∷ xs)) z0 (first-joined (x ∷ xs) (x .0) _ refl (λ k. refl))
+      go ih false h None f at = absurd (both-ways false refl (ap isSome (sym (ap (mapped suc) f) ∙ sym (cond-false _ _ _ h) ∙ at)))
+      go ih false h (Some k) f at =
+          let z : _≡_ {A = Option ℕ} (Some (suc k)) (Some m) = sym (ap (mapped suc) f) ∙ sym (cond-false _ _ _ h) ∙ at in
+          let zk : suc k ≡ m = cc in
+          subst (Joined-at (x ∷ xs) (x ∷ join-pairs join xs p e)) zk (later-joined x xs (join-pairs join xs p e) k (ih k f))
 
-  pub grown-new : None ≡ place-in (paths-of ps) p → (place-in (with-path (paths-of ps) p) p ≡ Some (length ps)) × (length (with-path (paths-of ps) p) ≡ length ps + 1)
-  grown-new f =
-      let a = new-among ps p f in
-      let g : with-path (paths-of ps) p ≡ paths-of ps ++ p ∷ [] = cond-false _ _ _ a in
-      (ap (λ qs. place-in qs p) g ∙ place-push (paths-of ps) p a ∙ ap Some (length-paths ps), ap length g ∙ length-push (paths-of ps) p ∙ ap (λ n. n + 1) (length-paths ps))
+-- a path, found or new, with its place and the number of paths held with it
+pub record Seated {K : Type 0} (m : Meaning K) (p : Path) (place held : ℕ) : Type 0 where
+  pub room : full-for m p ≡ false
+  pub some : 0 < m .places
+  pub within : held ≤ m .places
+  pub stands : place-in (with-path (paths-of (m .pairs)) p) p ≡ Some place
+  pub counts : held ≡ length (with-path (paths-of (m .pairs)) p)
+
+module _ {K : Type 0} (m : Meaning K) (p : Path) where
+  seat-found : (k : ℕ) → Some k ≡ place-of m p → length (m .pairs) ≤ m .places → Seated m p k (length (m .pairs))
+  unfolding place-of
+  seat-found k f le =
+      let g : with-path (paths-of (m .pairs)) p ≡ paths-of (m .pairs) = cond-true _ _ _ (held-among (m .pairs) p k f) in
+      let s = place-stands (paths-of (m .pairs)) p k (sym f) in
+      record { room = held-not-full m p k f; some = omega (arith, s .low, length-paths (m .pairs)); within = le; stands = ap (λ qs. place-in qs p) g ∙ sym f; counts = sym (ap length g ∙ length-paths (m .pairs)) }
+
+  seat-new : None ≡ place-of m p → length (m .pairs) ≤ m .places → eqb (length (m .pairs)) (m .places) ≡ false → Seated m p (length (m .pairs)) (length (m .pairs) + 1)
+  unfolding place-of count-of
+  seat-new f le free =
+      let a = new-among (m .pairs) p f in
+      let g : with-path (paths-of (m .pairs)) p ≡ paths-of (m .pairs) ++ p ∷ [] = cond-false _ _ _ a in
+      let ne = eqb-false _ _ free in
+      record {
+        room = new-full m p f ∙ free;
+        some = omega arith;
+        within = omega arith;
+        stands = ap (λ qs. place-in qs p) g ∙ place-push (paths-of (m .pairs)) p a ∙ ap Some (length-paths (m .pairs));
+        counts = sym (ap length g ∙ length-push (paths-of (m .pairs)) p ∙ ap (λ n. n + 1) (length-paths (m .pairs)));
+      }
+
+  seated : (o : Option ℕ) (k n : ℕ) → o ≡ place-of m p → length (m .pairs) ≤ m .places → _≡_ {A = Option (ℕ × ℕ)} (Some (k, n)) (seat o (length (m .pairs)) (m .places)) → Seated m p k n
+  seated (Some j) k n f le e =
+      let same : _≡_ {A = ℕ × ℕ} (j, length (m .pairs)) (k, n) = cc in
+      subst (λ (x : ℕ × ℕ). Seated m p (x .0) (x .1)) same (seat-found j f le)
+  seated None k n f le e = go (eqb (length (m .pairs)) (m .places)) refl e
+    where
+      go : (b : Bool) → eqb (length (m .pairs)) (m .places) ≡ b → _≡_ {A = Option (ℕ × ℕ)} (Some (k, n)) (cond b None (Some (length (m .pairs), length (m .pairs) + 1))) → Seated m p k n
+      go true h e = absurd (both-ways true (ap isSome e) refl)
+      go false h e =
+          let same : _≡_ {A = ℕ × ℕ} (length (m .pairs), length (m .pairs) + 1) (k, n) = cc in
+          subst (λ (x : ℕ × ℕ). Seated m p (x .0) (x .1)) same (seat-new f le h)
+
+  unseated : (o : Option ℕ) → o ≡ place-of m p → None ≡ seat o (length (m .pairs)) (m .places) → full-for m p ≡ true
+  unfolding count-of
+  unseated (Some j) f e = absurd (both-ways true (sym (ap isSome e)) refl)
+  unseated None f e = new-full m p f ∙ go (eqb (length (m .pairs)) (m .places)) e
+    where
+      go : (b : Bool) → _≡_ {A = Option (ℕ × ℕ)} None (cond b None (Some (length (m .pairs), length (m .pairs) + 1))) → b ≡ true
+      go true e = refl
+      go false e = absurd (both-ways true (sym (ap isSome e)) refl)
+
+-- the same of a log
+module _ {K : Type 0} (join : K → K → K) (t : Log K) (p : Path) (o : Option ℕ) (f : o ≡ place-of (log-meaning join t) p) where
+  held-is : t .held ≡ length (log-pairs join (t .used) (now (t .slots)))
+  held-is = t .counted ∙ sym (pairs-length join (t .used) (now (t .slots)))
+
+  pub log-seated : (k n : ℕ) → _≡_ {A = Option (ℕ × ℕ)} (Some (k, n)) (seat o (t .held) (length (now (t .slots)) / 2)) → Seated (log-meaning join t) p k n
+  log-seated k n e = seated (log-meaning join t) p o k n f (log-sound join t .within) (e ∙ ap (λ h. seat o h (length (now (t .slots)) / 2)) held-is)
+
+  pub log-unseated : None ≡ seat o (t .held) (length (now (t .slots)) / 2) → full-for (log-meaning join t) p ≡ true
+  log-unseated e = unseated (log-meaning join t) p o f (e ∙ ap (λ h. seat o h (length (now (t .slots)) / 2)) held-is)
+
+-- slots that have the places of their paths among qs
+under-is : {K : Type 0} (qs : List Path) (ss : List (LogSlot K)) (p : Path) → placed qs ss ≡ true → place-under ss p ≡ cond (among (paths-of (map pair-of ss)) p) (place-in qs p) None
+under-is qs [] p num = refl
+under-is qs (s ∷ ss) p num = go (under-is qs ss p (and-parts (is-place (place-in qs (s .path)) (s .place)) (placed qs ss) num .1)) (same-path (s .path) p) refl
+  where
+    go : place-under ss p ≡ cond (among (paths-of (map pair-of ss)) p) (place-in qs p) None → (b : Bool) → same-path (s .path) p ≡ b → cond b (Some (s .place)) (place-under ss p) ≡ cond (b || among (paths-of (map pair-of ss)) p) (place-in qs p) None
+    go ih true h = sym (ap (place-in qs) (sym (same-is _ p h)) ∙ placed-at qs (s ∷ ss) 0 s num (omega arith))
+    go ih false h = ih
 
 -- the slots of a log
 module _ {K : Type 0} (join : K → K → K) (n : ℕ) (ss : List (LogSlot K)) (le : n ≤ length ss) where
@@ -168,8 +205,17 @@ module _ {K : Type 0} (join : K → K → K) (n : ℕ) (ss : List (LogSlot K)) (
       ∙ ap (λ qs. place-in qs p) (sym (more .1))
       ∙ log-placed i s lt num
 
-  pub log-find-some : (i : ℕ) (s : LogSlot K) (p : Path) → i < n → placed (arrivals (take n ss)) (take n ss) ≡ true → same-path (getD ss i s .path) p ≡ true → Some (getD ss i s .place) ≡ place-in (paths-of (log-pairs join n ss)) p
-  log-find-some i s p lt num h = sym (ap (λ qs. place-in qs p) log-paths ∙ ap (place-in (arrivals (take n ss))) (sym (same-is _ p h)) ∙ log-placed i s lt num)
+  pub log-find : (p : Path) → placed (arrivals (take n ss)) (take n ss) ≡ true → place-under (take n ss) p ≡ place-in (paths-of (log-pairs join n ss)) p
+  log-find p num =
+      let qs = arrivals (take n ss) in
+      under-is qs (take n ss) p num
+      ∙ ap (λ b. cond b (place-in qs p) None) (sym (among-with-paths [] (paths-of (map pair-of (take n ss))) p) ∙ among-is qs p)
+      ∙ or-none (place-in qs p)
+      ∙ ap (λ xs. place-in xs p) (sym log-paths)
+    where
+      or-none : (o : Option ℕ) → cond (isSome o) o None ≡ o
+      or-none None = refl
+      or-none (Some k) = refl
 
   pub log-find-none : (p : Path) → ((k : ℕ) → k < n → same-path (path-in (map pair-of (take n ss)) k) p ≡ false) → None ≡ place-in (paths-of (log-pairs join n ss)) p
   log-find-none p h =

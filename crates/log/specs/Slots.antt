@@ -1,12 +1,13 @@
 -- What the slots of a log hold: pairs in the order in which they came. Assumes nothing.
 use mathlib.Core.Bool.{Bool, true, false, cond, _&&_}
 use mathlib.Core.List.{List, [], _∷_, _++_, map}
-use Prim.Native.Nat.{ℕ}
+use Prim.Native.Nat.{ℕ, _+_}
 use lib.Dec.{eqb}
 use lib.ListN.{take}
 use Rattle.std.specs.declared.option.Option.{Option}
 use Rattle.std.specs.declared.option.Option.the-variants.{Some, None}
 use Rattle.names.specs.declared.path.Path.{Path}
+use Rattle.names.specs.Paths.{same-path}
 use Rattle.store.specs.Meaning.{paths-of, among, place-in, join-pairs}
 use Rattle.log.specs.declared.slot.LogSlot.{LogSlot}
 
@@ -42,3 +43,13 @@ is-place (Some m) k = eqb m k
 abbrev pub placed : {K : Type 0} → List Path → List (LogSlot K) → Bool
 placed qs [] = true
 placed qs (s ∷ ss) = is-place (place-in qs (s .path)) (s .place) && placed qs ss
+
+-- the place in the first slot that has the path
+abbrev pub place-under : {K : Type 0} → List (LogSlot K) → Path → Option ℕ
+place-under [] p = None
+place-under (s ∷ ss) p = cond (same-path (s .path) p) (Some (s .place)) (place-under ss p)
+
+-- where a path stands, found or new, beside n that are held, and how many they are with it; none where a new one has no place
+abbrev pub seat : Option ℕ → ℕ → ℕ → Option (ℕ × ℕ)
+seat None n places = cond (eqb n places) None (Some (n, n + 1))
+seat (Some k) n places = Some (k, n)

@@ -21,12 +21,7 @@ pub(crate) fn fold<K: Joinable>(slots: &mut [LogSlot<K>], used: usize) -> usize
     'slots: for i in 0..used {
         let slot = slots[i];
         if slot.place < folded {
-            let old = slots[slot.place];
-            slots[slot.place] = LogSlot {
-                path: old.path,
-                entry: old.entry.join(slot.entry),
-                place: old.place,
-            };
+            slots[slot.place] = slots[slot.place].joined(slot.entry);
         } else {
             slots[folded] = slot;
             folded += 1;

@@ -1,9 +1,10 @@
 ghost use mathlib.Core.Path.{_≡_};
-ghost use Prim.Native.Nat.{_≤_, _<_, _/_};
-ghost use lib.ListN.{length, take};
-ghost use Rattle.std.specs.declared.option.Option.the-variants.{Some};
-ghost use Rattle.store.specs.Meaning.{empty-store, place-in, join-pairs};
-ghost use Rattle.log.specs.Slots.{arrivals, with-path, log-pairs};
+ghost use mathlib.Core.Bool.{true};
+ghost use Prim.Native.Nat.{_+_, _≤_, _<_, _/_};
+ghost use lib.ListN.{length, take, set};
+ghost use Rattle.store.specs.Meaning.{empty-store};
+ghost use Rattle.store.specs.Laws.{onto};
+ghost use Rattle.log.specs.Slots.{arrivals, placed, place-under, seat, log-pairs};
 ghost use Rattle.log.specs.Logs.{log-meaning, log-sound};
 use crate::Log;
 use crate::fold::fold;
@@ -44,19 +45,60 @@ impl<'a, K: Joinable> Log<'a, K> {
         self.used = folded;
     }
 
-    // Writes a pair to the first free slot, with its path's place and the number of paths then held.
-    fn append(&mut self, path: Path, entry: K, place: usize, held: usize)
+    // The place for the path that was looked for, and how many paths are held with it.
+    // A new path comes last; there is no place for it when every place is held.
+    fn place_for(&self, found: Option<usize>) -> Option<(usize, usize)>
+        ensures { λ r. ⌜ r ≡ seat found (now (self .entry) .held) (length (now (now (self .entry) .slots)) / 2) ⌝ }
+    {
+        match found {
+            Some(place) => Some((place, self.held)),
+            None => {
+                if self.held == self.slots.len() / 2 {
+                    None
+                } else {
+                    Some((self.held, self.held + 1))
+                }
+            }
+        }
+    }
+
+    // Writes a pair to the first free slot, and notes how many paths are held then.
+    fn append(&mut self, slot: LogSlot<K>, held: usize)
         requires free { ⌜ now self .used < length (now (now self .slots)) ⌝ }
-        requires place { ⌜ place-in (with-path (arrivals (take (now self .used) (now (now self .slots)))) path) path ≡ Some place ⌝ }
-        requires held { ⌜ held ≡ length (with-path (arrivals (take (now self .used) (now (now self .slots)))) path) ⌝ }
         requires half { ⌜ held ≤ length (now (now self .slots)) / 2 ⌝ }
-        ensures slots { λ _. ⌜ length (now (now (self .exit) .slots)) ≡ length (now (now (self .entry) .slots)) ⌝ }
-        ensures pairs { λ _. ⌜ log-pairs (K·Joinable .joined) (now (self .exit) .used) (now (now (self .exit) .slots)) ≡ join-pairs (K·Joinable .joined) (log-pairs (K·Joinable .joined) (now (self .entry) .used) (now (now (self .entry) .slots))) path entry ⌝ }
+        requires counted { ⌜ held ≡ length (arrivals (take (now self .used + 1) (set (now (now self .slots)) (now self .used) slot))) ⌝ }
+        requires numbered { ⌜ placed (arrivals (take (now self .used + 1) (set (now (now self .slots)) (now self .used) slot))) (take (now self .used + 1) (set (now (now self .slots)) (now self .used) slot)) ≡ true ⌝ }
+        ensures used { λ _. ⌜ now (self .exit) .used ≡ now (self .entry) .used + 1 ⌝ }
+        ensures slots { λ _. ⌜ now (now (self .exit) .slots) ≡ set (now (now (self .entry) .slots)) (now (self .entry) .used) slot ⌝ }
     {
         let at = self.used;
-        self.slots[at] = LogSlot { path, entry, place };
+        self.slots[at] = slot;
         self.used = at + 1;
         self.held = held;
+    }
+}
+
+// The place in the first slot that has the path.
+fn place_under<K>(slots: &[LogSlot<K>], path: &Path) -> Option<usize>
+    ensures { λ r. ⌜ r ≡ place-under (now (slots .entry)) (now (path .entry)) ⌝ }
+{
+    let mut rest = slots;
+    'slots: while let Some((slot, after)) = rest.split_first() {
+        if slot.path == *path {
+            return Some(slot.place);
+        }
+        rest = after;
+    }
+    None
+}
+
+// An entry joined to the one before it, if there is one.
+fn onto<K: Joinable>(before: Option<K>, entry: K) -> K
+    ensures { λ r. ⌜ r ≡ onto (K·Joinable .joined) before entry ⌝ }
+{
+    match before {
+        Some(old) => old.join(entry),
+        None => entry,
     }
 }
 
@@ -75,13 +117,7 @@ pub impl<'a, K: Joinable> Readable<K> for Log<'a, K> as LogReadable {
 
     fn find(&self, path: &Path) -> Option<usize> {
         let slots = &*self.slots;
-        'slots: for i in 0..self.used {
-            let slot = &slots[i];
-            if slot.path == *path {
-                return Some(slot.place);
-            }
-        }
-        None
+        place_under(&slots[0..self.used], path)
     }
 
     fn path_at(&self, place: usize) -> Path {
@@ -98,36 +134,25 @@ pub impl<'a, K: Joinable> Readable<K> for Log<'a, K> as LogReadable {
     // The join of all the entries that came to the place.
     fn entry_at(&self, place: usize) -> K {
         let slots = &*self.slots;
-        let mut found = false;
-        let mut whole = K::blank();
+        let mut whole = None;
         'slots: for i in 0..self.used {
             let slot = slots[i];
             if slot.place == place {
-                whole = if found {
-                    whole.join(slot.entry)
-                } else {
-                    slot.entry
-                };
-                found = true;
+                whole = Some(onto(whole, slot.entry));
             }
         }
-        whole
+        whole.unwrap_or(K::blank())
     }
 }
 
 pub impl<'a, K: Joinable> Store<K> for Log<'a, K> as LogStore {
     fn join(&mut self, path: Path, entry: K) -> Result<(), Ground> {
-        let (place, held) = match self.find(&path) {
-            Some(place) => (place, self.held),
-            None => {
-                if self.held == self.slots.len() / 2 {
-                    return Err(Ground::StoreFull);
-                }
-                (self.held, self.held + 1)
-            }
+        let found = self.find(&path);
+        let Some((place, held)) = self.place_for(found) else {
+            return Err(Ground::StoreFull);
         };
         self.make_room();
-        self.append(path, entry, place, held);
+        self.append(LogSlot { path, entry, place }, held);
         Ok(())
     }
 }

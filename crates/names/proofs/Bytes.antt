@@ -10,16 +10,18 @@ use lib.ListN.{length, take, drop, getD}
 use lib.Pow.{pow-add}
 use Rattle.std.proofs.shelf.Lists.{append-nil, append-assoc, take-more, take-all, at-drop-more, at-drop-all}
 use Rattle.std.proofs.shelf.Tests.{cond-true, cond-false, eq-eqb, ne-eqb}
-use Rattle.names.specs.Labels.{legal, all-legal, packed, until-zero}
+use Rattle.names.specs.Labels.{label-byte, legal, all-legal, packed, until-zero}
 
 -- all bytes are legal: a byte that is not, one that is, and the end
 legal-at : (xs : List ℕ) (i : ℕ) → i < length xs → all-legal (drop i xs) ≡ (legal (getD xs i 0) && all-legal (drop (i + 1) xs))
 legal-at xs i lt = at-drop-more all-legal xs i 0 lt
 
-pub legal-stop : (xs : List ℕ) (i : ℕ) → i < length xs → all-legal (drop i xs) ≡ all-legal xs → legal (getD xs i 0) ≡ false → false ≡ all-legal xs
+pub legal-stop : (xs : List ℕ) (i : ℕ) → i < length xs → all-legal (drop i xs) ≡ all-legal xs → label-byte (getD xs i 0) ≡ false → false ≡ all-legal xs
+unfolding legal
 legal-stop xs i lt inv illegal = sym (sym inv ∙ legal-at xs i lt ∙ ap (λ b. b && all-legal (drop (i + 1) xs)) illegal)
 
-pub legal-more : (xs : List ℕ) (i : ℕ) → i < length xs → all-legal (drop i xs) ≡ all-legal xs → legal (getD xs i 0) ≡ true → all-legal (drop (i + 1) xs) ≡ all-legal xs
+pub legal-more : (xs : List ℕ) (i : ℕ) → i < length xs → all-legal (drop i xs) ≡ all-legal xs → label-byte (getD xs i 0) ≡ true → all-legal (drop (i + 1) xs) ≡ all-legal xs
+unfolding legal
 legal-more xs i lt inv lawful = sym (sym inv ∙ legal-at xs i lt ∙ ap (λ b. b && all-legal (drop (i + 1) xs)) lawful)
 
 pub legal-all : (xs : List ℕ) (i : ℕ) → length xs ≤ i → all-legal (drop i xs) ≡ all-legal xs → true ≡ all-legal xs

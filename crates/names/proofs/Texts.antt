@@ -9,6 +9,7 @@ use native.Mathlib.Omega.{arith}
 use lib.Dec.{eqb, leb, ltb}
 use lib.ListN.{length, drop, getD}
 use Rattle.std.specs.shelf.Lists.{All}
+use Rattle.std.specs.declared.option.Option.{Option}
 use Rattle.std.specs.declared.option.Option.the-variants.{Some, None}
 use Rattle.std.specs.Text.{Ascii, Utf8}
 use Rattle.std.proofs.shelf.Ascii.{ascii-nil, ascii-cons}
@@ -16,7 +17,7 @@ use Rattle.std.proofs.shelf.Text.{utf8-from-ascii}
 use Rattle.std.proofs.shelf.Tests.{false≢true, cond-true, cond-false, cond-both, and-parts, and-from, eqb-true, ne-eqb, lt-ltb, le-leb, ltb-true, leb-true}
 use Rattle.std.proofs.shelf.Ways.{tells, same-from-decides, decides-eqb}
 use Rattle.names.specs.declared.label.Label.{Label}
-use Rattle.names.specs.Labels.{label, legal, all-legal, label-text, packed, read-label, padded, eight, is-label, until-zero, text-of}
+use Rattle.names.specs.Labels.{label, legal, all-legal, label-text, packed, read-label, is-read, padded, eight, is-label, until-zero, text-of}
 
 -- a legal byte is no zero, and ASCII
 legal-byte : (b : ℕ) → legal b ≡ true → (0 < b) × (b < 128)
@@ -164,14 +165,15 @@ text-reads n lt h =
 pub label-exactly : (r : Bool) (l : Label) → l .number < 2 ^ 64 → r ≡ is-label (l .number) → (r ≡ true) ↔ ((bs : List ℕ) × (read-label bs ≡ Some l))
 label-exactly r l lt e = (λ h. (text-of (l .number), text-reads (l .number) lt (sym e ∙ h)), λ t. e ∙ read-is-label (t .0) l (t .1))
 
--- a number whose text reads to a label, or to none
-pub label-when-read : (n : ℕ) (l : Label) → n < 2 ^ 64 → read-label (text-of n) ≡ Some l → eqb (l .number) n ≡ is-label n
-label-when-read n l lt h =
-    same-from-decides _ _ (decides-eqb (l .number) n)
-    ((λ t. let r = text-reads n lt t in cc), λ e. subst (λ m. is-label m ≡ true) e (read-is-label (text-of n) l h))
-
-pub no-label-when-not-read : (n : ℕ) → n < 2 ^ 64 → read-label (text-of n) ≡ None → false ≡ is-label n
-no-label-when-not-read n lt h = same-from-decides false (is-label n) ((λ e. e), λ e. e) (λ t. let r = text-reads n lt t in let z : _≡_ {A = ℕ} 0 1 = cc in absurd (omega arith), λ e. absurd (false≢true e))
+-- a number is a label's exactly when its text reads to it
+pub label-when-read : (n : ℕ) → n < 2 ^ 64 → is-read (read-label (text-of n)) n ≡ is-label n
+label-when-read n lt = go (read-label (text-of n)) refl
+  where
+    go : (o : Option Label) → read-label (text-of n) ≡ o → is-read o n ≡ is-label n
+    go (Some l) h =
+        same-from-decides _ _ (decides-eqb (l .number) n)
+        ((λ t. let r = text-reads n lt t in cc), λ e. subst (λ m. is-label m ≡ true) e (read-is-label (text-of n) l h))
+    go None h = same-from-decides false (is-label n) ((λ e. e), λ e. e) (λ t. let r = text-reads n lt t in let z : _≡_ {A = ℕ} 0 1 = cc in absurd (omega arith), λ e. absurd (false≢true e))
 
 ascii-from-legal : (bs : List ℕ) → all-legal bs ≡ true → Ascii bs
 ascii-from-legal [] h = ascii-nil

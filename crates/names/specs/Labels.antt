@@ -14,17 +14,25 @@ abbrev pub label : ℕ → Label
 label n = record { number = n }
 
 -- a to z, 0 to 9 and the hyphen
+abbrev pub label-byte : ℕ → Bool
+label-byte b = (leb 97 b && leb b 122) || (leb 48 b && leb b 57) || eqb b 45
+
+-- the same, shut: a proof opens it where it has to
 unfoldable pub legal : ℕ → Bool
-legal b = (leb 97 b && leb b 122) || (leb 48 b && leb b 57) || eqb b 45
+legal b = label-byte b
 
 -- each byte is legal
 abbrev pub all-legal : List ℕ → Bool
 all-legal [] = true
 all-legal (b ∷ bs) = legal b && all-legal bs
 
+-- 1 to 8
+abbrev pub label-length : ℕ → Bool
+label-length n = ltb 0 n && leb n 8
+
 -- 1 to 8 legal bytes
 abbrev pub label-text : List ℕ → Bool
-label-text bs = ltb 0 (length bs) && leb (length bs) 8 && all-legal bs
+label-text bs = label-length (length bs) && all-legal bs
 
 -- n, then k bytes of the text, the first highest, and zeros where it has no more
 abbrev pub packed : ℕ → ℕ → List ℕ → ℕ
@@ -35,6 +43,11 @@ packed n (suc k) (b ∷ bs) = packed (n * 256 + b) k bs
 -- the label that a text reads to
 abbrev pub read-label : List ℕ → Option Label
 read-label bs = cond (label-text bs) (Some (label (packed 0 8 bs))) None
+
+-- a label was read, and it is the one that is kept as a number
+abbrev pub is-read : Option Label → ℕ → Bool
+is-read None n = false
+is-read (Some l) n = eqb (l .number) n
 
 -- the eight bytes of a number, the highest first
 abbrev pub eight : ℕ → List ℕ

@@ -8,7 +8,7 @@ ghost use Rattle.std.specs.Of.Vec.{vec-items};
 ghost use Rattle.std.specs.Vec.{made};
 ghost use Rattle.std.specs.declared.option.Option.the-variants.{Some};
 ghost use Rattle.names.specs.declared.label.Label.{Label as Kept};
-ghost use Rattle.names.specs.Labels.{legal, all-legal, read-label, is-label, until-zero, text-of, shown-label};
+ghost use Rattle.names.specs.Labels.{label-byte, all-legal, label-length, label-text, read-label, is-read, is-label, until-zero, text-of, shown-label};
 use std::alloc::AllocError;
 use std::alloc::Global;
 use std::fmt;
@@ -23,7 +23,7 @@ pub struct Label {
 
 // Whether a label may have the byte: a to z, 0 to 9 or the hyphen.
 fn is_label_byte(byte: u8) -> bool
-    ensures { λ r. ⌜ r ≡ legal byte ⌝ }
+    ensures { λ r. ⌜ r ≡ label-byte byte ⌝ }
 {
     byte.is_ascii_lowercase() || byte.is_ascii_digit() || byte == b'-'
 }
@@ -38,6 +38,20 @@ fn are_label_bytes(text: &[u8]) -> bool
         }
     }
     true
+}
+
+// Whether a label may have so many bytes: 1 to 8.
+fn is_label_length(length: usize) -> bool
+    ensures { λ r. ⌜ r ≡ label-length length ⌝ }
+{
+    1 <= length && length <= 8
+}
+
+// Whether the bytes are the text of a label.
+fn is_label_text(text: &[u8]) -> bool
+    ensures { λ r. ⌜ r ≡ label-text (now (text .entry)) ⌝ }
+{
+    is_label_length(text.len()) && are_label_bytes(text)
 }
 
 // The bytes before the first zero.
@@ -62,7 +76,7 @@ impl Label {
         ensures value { λ r. ⌜ r ≡ read-label (now (text .entry)) ⌝ }
         ensures written { λ r. ⌜ ((l : Kept) → r ≡ Some l → text-of (l .number) ≡ now (text .entry)) ⌝ }
     {
-        if text.is_empty() || text.len() > 8 || !are_label_bytes(text) {
+        if !is_label_text(text) {
             return None;
         }
         let mut number: u64 = 0;
@@ -81,16 +95,23 @@ impl Label {
         Vec::from_slice(heap, before_zero(&bytes))
     }
 
+    // Whether the text reads to this label.
+    fn is_read_from(&self, text: &[u8]) -> bool
+        ensures { λ r. ⌜ r ≡ is-read (read-label (now (text .entry))) (now (self .entry) .number) ⌝ }
+    {
+        match Label::read(text) {
+            Some(label) => label.number == self.number,
+            None => false,
+        }
+    }
+
     // Whether the number is that of a label, which is so exactly when some text reads to it.
     pub fn is_sound(&self) -> bool
         ensures value { λ r. ⌜ r ≡ is-label (now (self .entry) .number) ⌝ }
         ensures exactly { λ r. ⌜ ((r ≡ true) ↔ ((bs : List ℕ) × (read-label bs ≡ Some (now (self .entry))))) ⌝ }
     {
         let bytes = self.number.to_be_bytes();
-        match Label::read(before_zero(&bytes)) {
-            Some(label) => label.number == self.number,
-            None => false,
-        }
+        self.is_read_from(before_zero(&bytes))
     }
 }
 

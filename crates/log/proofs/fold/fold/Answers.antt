@@ -1,9 +1,8 @@
-use mathlib.Core.Path.{_≡_, refl, sym, ap, subst, _∙_}
-use Prim.Native.Nat.{_+_, _<_, _≤_}
+use mathlib.Core.Path.{_≡_, refl, ap, _∙_}
+use Prim.Native.Nat.{_+_}
 use native.Mathlib.Omega.{arith}
-use lib.ListN.{length}
 use Rattle.log.specs.Slots.{log-pairs}
-use Rattle.log.proofs.Folds.{Folded, folded-as, fold-held, fold-new}
+use Rattle.log.proofs.Folds.{folded-as, fold-held, fold-new}
 use Rattle.log.proofs.fold.fold.Needs as need
 use Rattle.log.proofs.fold.fold.Needs.{then-slot-folded, else-slot-folded}
 
@@ -20,7 +19,7 @@ slots-again g c =
     let r = c .index-slots-i .result in
     elim (c .if-slot-folded .came) [
       | then-slot-folded w ↦
-          let h = fold-held j (c .args .used) from (c .pre .within) (c .pre .numbered) ss f i (c .slots-test .taken) (c .slots .kept .slots) (c .slots .inv) r (c .index-slots-i .is) (w .index-slots-slot .result) (w .join .result) (w .index-slots-slot .is) (w .if-slot-folded .taken) (w .join .ensures) in
+          let h = fold-held j (c .args .used) from (c .pre .within) (c .pre .numbered) ss f i (c .slots-test .taken) (c .slots .kept .slots) (c .slots .inv) r (c .index-slots-i .is) (w .index-slots-slot .result) (w .joined .result) (w .if-slot-folded .taken) (w .index-slots-slot .is) (w .joined .ensures .path) (w .joined .ensures .entry) (w .joined .ensures .place) in
           folded-as j from _ (c .if-slot-folded .slots) _ (c .if-slot-folded .folded) (i + 1) (w .slots-is) (w .folded-is) h
       | else-slot-folded w ↦
           let h = fold-new j (c .args .used) from (c .pre .within) (c .pre .numbered) ss f i (c .slots-test .taken) (c .slots .kept .slots) (c .slots .inv) r (c .index-slots-i .is) (w .if-slot-folded .left) in

@@ -1,78 +1,48 @@
-use mathlib.Core.Path.{_≡_, sym, ap, subst, _∙_}
-use mathlib.Core.Bool.{false}
+use mathlib.Core.Path.{_≡_, sym, ap, _∙_}
 use mathlib.Core.List.{[], map}
-use Prim.Native.Nat.{_+_, _<_, _≤_, _/_}
 use native.Mathlib.Omega.{arith}
-use lib.ListN.{length, take}
-use Rattle.std.proofs.shelf.Tests.{cond-true, cond-false, eq-eqb, ne-eqb}
-use Rattle.std.specs.declared.option.Option.the-variants.{Some}
-use Rattle.store.specs.Meaning.{Meaning, paths-of, place-in, count-of, place-of, full-for, join-pairs}
-use Rattle.store.proofs.Pairs.{held-not-full, new-full, join-taken, join-refused}
+use lib.ListN.{length, take, length-set}
+use Rattle.std.proofs.shelf.Tests.{cond-true, cond-false}
+use Rattle.store.specs.Meaning.{paths-of, place-in, join-pairs}
+use Rattle.store.proofs.Pairs.{join-taken, join-refused}
+use Rattle.log.specs.declared.slot.LogSlot.{LogSlot}
 use Rattle.log.specs.Slots.{log-pairs, pair-of, arrivals, with-path}
-use Rattle.log.specs.Logs.{log-meaning, joined-paths, pairs-length}
-use Rattle.log.proofs.Steps.{grown-held, grown-new}
+use Rattle.log.specs.Logs.{log-meaning, joined-paths}
+use Rattle.log.proofs.Folds.{push-arrivals, push-placed, push-pairs}
+use Rattle.log.proofs.Steps.{log-seated, log-unseated}
 use Rattle.log.proofs.log_store.LogStore.join.Needs as need
-use Rattle.log.proofs.log_store.LogStore.join.Needs.{in-Some, in-None·else-self}
 
-pub returns-then-self : need.returns-then-self
-unfolding count-of
-returns-then-self g c =
-    let t = c .args .self .now in
-    let join = g .K·Joinable .joined in
-    let held : t .held ≡ length (log-pairs join (t .used) (t .slots .now)) = t .counted ∙ sym (pairs-length join (t .used) (t .slots .now)) in
-    let full = new-full (log-meaning join t) (c .args .path) (c .in-None .ensures tt) ∙ eq-eqb _ _ (sym held ∙ c .if-self .taken) in
-    record { answer = sym (cond-true _ _ _ full); after = sym (join-refused join (log-meaning join t) _ _ full) }
+pub returns-in-rest : need.returns-in-rest
+returns-in-rest g c =
+    let full = log-unseated (g .K·Joinable .joined) (c .args .self .now) (c .args .path) (c .find-found .result) (c .find-found .ensures) (c .in-rest .ensures tt) in
+    record { answer = sym (cond-true _ _ _ full); after = sym (join-refused _ _ _ _ full) }
 
 pub append-requires : need.append-requires
-unfolding place-of
 append-requires g c κs =
     let t = c .args .self .now in
-    let join = g .K·Joinable .joined in
+    let j = g .K·Joinable .joined in
     let p = c .args .path in
-    let ps = log-pairs join (t .used) (t .slots .now) in
-    let held : t .held ≡ length ps = t .counted ∙ sym (pairs-length join (t .used) (t .slots .now)) in
+    let new : LogSlot (g .K .Denot) = record { path = p; entry = c .args .entry; place = c .in-Some .place } in
     let t′ = c .make-room .last .self in
-    let paths : paths-of ps ≡ arrivals (take (t′ .used) (t′ .slots .now)) = sym (ap paths-of (c .make-room .ensures .pairs)) ∙ joined-paths join [] (map pair-of (take (t′ .used) (t′ .slots .now))) in
-    let slots = c .make-room .ensures .slots in
-    elim (c .match-find .came) [
-      | in-Some w ↦
-          let h = grown-held ps p (w .in-Some .place) (w .in-Some .ensures tt) in
-          let e0 : c .match-find .place .0 ≡ w .in-Some .place = ap (λ x. x .0) (w .place-is) in
-          let e1 : c .match-find .place .1 ≡ t .held = ap (λ x. x .1) (w .place-is) in
-          record {
-            free = c .make-room .ensures .free (omega (arith, h .2, t .half));
-            place = ap (λ qs. place-in (with-path qs p) p) (sym paths) ∙ h .0 ∙ ap Some (sym e0);
-            held = e1 ∙ held ∙ sym (h .1) ∙ ap (λ qs. length (with-path qs p)) paths;
-            half = subst (λ k. c .match-find .place .1 ≤ k / 2) (sym slots) (subst (λ k. k ≤ length (t .slots .now) / 2) (sym e1) (t .half));
-          }
-      | in-None·else-self w ↦
-          let h = grown-new ps p (w .in-None .ensures tt) in
-          let e0 : c .match-find .place .0 ≡ t .held = ap (λ x. x .0) (w .place-is) in
-          let e1 : c .match-find .place .1 ≡ t .held + 1 = ap (λ x. x .1) (w .place-is) in
-          let small : t .held + 1 ≤ length (t .slots .now) / 2 = omega (arith, t .half, w .if-self .left) in
-          record {
-            free = c .make-room .ensures .free (omega arith);
-            place = ap (λ qs. place-in (with-path qs p) p) (sym paths) ∙ h .0 ∙ ap Some (sym held ∙ sym e0);
-            held = e1 ∙ ap (λ k. k + 1) held ∙ sym (h .1) ∙ ap (λ qs. length (with-path qs p)) paths;
-            half = subst (λ k. c .match-find .place .1 ≤ k / 2) (sym slots) (subst (λ k. k ≤ length (t .slots .now) / 2) (sym e1) small);
-          }
-    ]
+    let ss = t′ .slots .now in
+    let s = log-seated j t p (c .find-found .result) (c .find-found .ensures) _ _ (c .in-Some .ensures tt) in
+    let free = c .make-room .ensures .free (omega (arith, s .some, t .half)) in
+    let paths : paths-of (log-pairs j (t .used) (t .slots .now)) ≡ arrivals (take (t′ .used) ss) = sym (ap paths-of (c .make-room .ensures .pairs)) ∙ joined-paths j [] (map pair-of (take (t′ .used) ss)) in
+    record {
+      free = free;
+      half = omega (arith, s .within, c .make-room .ensures .slots);
+      counted = s .counts ∙ ap (λ qs. length (with-path qs p)) paths ∙ sym (ap length (push-arrivals (t′ .used) ss new free));
+      numbered = push-placed (t′ .used) ss new free (t′ .numbered) (ap (λ qs. place-in (with-path qs p) p) (sym paths) ∙ s .stands);
+    }
 
 pub returns : need.returns
-unfolding count-of
 returns g c =
     let t = c .args .self .now in
-    let join = g .K·Joinable .joined in
-    let p = c .args .path in
-    let m = log-meaning join t in
-    let held : t .held ≡ length (log-pairs join (t .used) (t .slots .now)) = t .counted ∙ sym (pairs-length join (t .used) (t .slots .now)) in
-    let room : full-for m p ≡ false =
-    elim (c .match-find .came) [
-      | in-Some w ↦ held-not-full m p (w .in-Some .place) (w .in-Some .ensures tt)
-      | in-None·else-self w ↦ new-full m p (w .in-None .ensures tt) ∙ ne-eqb _ _ (λ e. w .if-self .left (held ∙ e))
-    ] in
-    let pairs = c .append .ensures .pairs ∙ ap (λ xs. join-pairs join xs p (c .args .entry)) (c .make-room .ensures .pairs) in
-    let slots = c .append .ensures .slots ∙ c .make-room .ensures .slots in
-    let t″ = c .append .last .self in
-    let whole : log-meaning join t″ ≡ record { pairs = join-pairs join (m .pairs) p (c .args .entry); places = m .places } = cc in
-    record { answer = sym (cond-false _ _ _ room); after = whole ∙ sym (join-taken join m p (c .args .entry) room) }
+    let j = g .K·Joinable .joined in
+    let new : LogSlot (g .K .Denot) = record { path = c .args .path; entry = c .args .entry; place = c .in-Some .place } in
+    let t′ = c .make-room .last .self in
+    let s = log-seated j t (c .args .path) (c .find-found .result) (c .find-found .ensures) _ _ (c .in-Some .ensures tt) in
+    let pairs = push-pairs (t′ .used) (t′ .slots .now) new (c .make-room .ensures .free (omega (arith, s .some, t .half))) j in
+    let long = length-set (t′ .slots .now) (t′ .used) new in
+    let whole : log-meaning j (c .append .last .self) ≡ record { pairs = join-pairs j (log-pairs j (t .used) (t .slots .now)) (c .args .path) (c .args .entry); places = log-meaning j t .places } = cc in
+    record { answer = sym (cond-false _ _ _ (s .room)); after = whole ∙ sym (join-taken j (log-meaning j t) (c .args .path) (c .args .entry) (s .room)) }

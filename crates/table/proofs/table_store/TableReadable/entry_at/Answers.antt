@@ -3,9 +3,7 @@ use Rattle.table.proofs.Held.{entry-is, entry-beyond}
 use Rattle.table.proofs.table_store.TableReadable.entry_at.Needs as need
 
 pub returns-then-place-self : need.returns-then-place-self
-returns-then-place-self g c =
-    let t = c .args .self .now in entry-is (t .used) (t .slots .now) (t .fits) _ (c .args .place) (c .index-slots-place .result) (c .if-place-self .taken)
+returns-then-place-self g c = entry-is (c .args .self .now) _ (c .args .place) (c .index-slots-place .result) (c .if-place-self .taken)
 
 pub returns-else-place-self : need.returns-else-place-self
-returns-else-place-self g c =
-    let t = c .args .self .now in c .blank .ensures ∙ entry-beyond (t .used) (t .slots .now) (t .fits) _ (c .args .place) (c .if-place-self .left)
+returns-else-place-self g c = c .blank .ensures ∙ entry-beyond (c .args .self .now) _ (c .args .place) (c .if-place-self .left)
