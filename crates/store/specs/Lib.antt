@@ -1,3 +1,4 @@
+pub mod Banks
 pub mod Joins
 pub mod Laws
 pub mod Meaning

@@ -2,6 +2,7 @@
 // (docs/RULES.md, "Stores").
 mod bank;
 mod laws;
+mod one;
 mod store;
 
 pub use bank::Bank;
@@ -11,5 +12,7 @@ pub use bank::PairBank;
 pub use laws::every_store_holds_each_path_once_within_its_places;
 pub use laws::find_tells_the_one_place_of_a_path;
 pub use laws::joins_settle_their_own_path_alone;
+pub use one::OneStore;
+pub use one::OneStoreReadable;
 pub use store::Readable;
 pub use store::Store;

@@ -1,4 +1,7 @@
 // The tour: a real task carried through, with a note for each step of what was done and what is now held.
+mod bakeries;
+mod making;
+mod names_read;
 mod notes;
 mod stores;
 
@@ -6,7 +9,9 @@ use std::error::AnyError;
 
 fn run(rt: &LibcRuntime) -> Result<(), AnyError> {
     stores::through_a_table(rt)?;
-    stores::through_a_log(rt)
+    stores::through_a_log(rt)?;
+    names_read::by_names(rt)?;
+    bakeries::swept(rt)
 }
 
 fn main(rt: LibcRuntime) -> Result<(), AnyError> {

@@ -1,4 +1,6 @@
 // The first part: one recipe in the two builds of a store.
+use crate::making::path;
+use crate::making::said;
 use crate::notes;
 use entries::Content;
 use entries::Joinable;
@@ -8,9 +10,7 @@ use log::Log;
 use log::LogReadable;
 use log::LogSlot;
 use log::LogStore;
-use names::Label;
 use names::Path;
-use names::stamp_at;
 use std::error::AnyError;
 use store::Store;
 use table::Table;
@@ -21,30 +21,9 @@ use table::TableStore;
 // The directory of the tour's recipes.
 const RECIPES: u32 = 1;
 
-// The label with that text, or none for a text that is no label's.
-fn label(text: &[u8]) -> Label {
-    match Label::read(text) {
-        Some(label) => label,
-        None => Label::NONE,
-    }
-}
-
 // The path of a recipe, or of one of its values.
 fn recipe(name: &[u8], value: &[u8]) -> Path {
-    Path {
-        directory: RECIPES,
-        first: label(name),
-        second: label(value),
-        third: Label::NONE,
-    }
-}
-
-// What the copy `server` says at a time.
-fn said(time: u32, server: u8, content: Content) -> Recipe {
-    Recipe {
-        stamp: stamp_at(time, server),
-        content,
-    }
+    path(RECIPES, name, value)
 }
 
 // Joins what was said, with a note of it and of what is then held.

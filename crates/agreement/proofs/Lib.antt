@@ -1,0 +1,9 @@
+pub mod Agree
+pub mod Calls
+pub mod Claims
+pub mod Example
+pub mod Invariant
+pub mod Passing
+pub mod Round
+pub mod Stores
+pub mod Tables

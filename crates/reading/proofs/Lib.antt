@@ -1,0 +1,9 @@
+pub mod Options
+pub mod Found
+pub mod Parents
+pub mod Shows
+pub mod SoundNames
+pub mod Walks
+pub mod Ruled
+pub mod Uses
+pub mod Grown

@@ -1,0 +1,4 @@
+pub mod Shown
+pub mod Lookup
+pub mod Rules
+pub mod Growth

@@ -1,0 +1,4 @@
+pub mod Built
+pub mod Limits
+pub mod Openings
+pub mod Recipes
