@@ -27,6 +27,7 @@ later [] (y ∷ ys) = true
 later (x ∷ xs) [] = false
 later (x ∷ xs) (y ∷ ys) = cond (eqb x y) (later xs ys) (ltb x y)
 
+-- the blank entry: absent, stamped 0
 abbrev pub blank-recipe : Recipe
 blank-recipe = record { stamp = 0; content = Absent }
 
@@ -34,6 +35,7 @@ blank-recipe = record { stamp = 0; content = Absent }
 abbrev pub join-recipes : Recipe → Recipe → Recipe
 join-recipes a b = cond (later (key a) (key b)) b a
 
+-- the stamp of an entry
 abbrev pub stamp-of : Recipe → ℕ
 stamp-of r = r .stamp
 
@@ -45,5 +47,6 @@ sound-content (Number n) = true
 sound-content (Directory d) = true
 sound-content (Link d l) = is-label (l .number)
 
+-- the stamp is below its limit, and a link has a label
 abbrev pub sound-recipe : Recipe → Bool
 sound-recipe r = ltb (r .stamp) (2 ^ 40) && sound-content (r .content)

@@ -9,9 +9,11 @@ use Rattle.std.specs.declared.option.Option.{Option}
 use Rattle.std.specs.declared.option.Option.the-variants.{Some, None}
 use Rattle.entries.specs.declared.rights.Rights.{Rights}
 
+-- an entry by the numbers of its roles
 abbrev pub of-roles : List ℕ → Rights
 of-roles xs = record { roles = xs }
 
+-- the blank entry: nothing was said of any role
 abbrev pub blank-rights : Rights
 blank-rights = of-roles (replicate 8 0)
 
@@ -21,9 +23,11 @@ greater [] ys = ys
 greater (x ∷ xs) [] = x ∷ xs
 greater (x ∷ xs) (y ∷ ys) = max x y ∷ greater xs ys
 
+-- the greater number of each role
 abbrev pub join-rights : Rights → Rights → Rights
 join-rights a b = of-roles (greater (a .roles) (b .roles))
 
+-- the greatest of the numbers, or 0
 abbrev pub greatest : List ℕ → ℕ
 greatest [] = 0
 greatest (x ∷ xs) = max x (greatest xs)
@@ -36,10 +40,12 @@ stamp-in n = n / 2
 abbrev pub rights-stamp : Rights → ℕ
 rights-stamp a = stamp-in (greatest (a .roles))
 
+-- each number is below the limit
 abbrev pub all-below : ℕ → List ℕ → Bool
 all-below n [] = true
 all-below n (x ∷ xs) = ltb x n && all-below n xs
 
+-- each number is below 2^41
 abbrev pub sound-rights : Rights → Bool
 sound-rights a = all-below (2 ^ 41) (a .roles)
 

@@ -8,9 +8,11 @@ use Rattle.heads.specs.declared.Head.{Head}
 abbrev pub new-head : Head
 new-head = record { floor = 0; sweep = 0 }
 
+-- a head with its floor at the stamp, if it was lower
 abbrev pub lift-floor : ℕ → Head → Head
 lift-floor s h = record { floor = max (h .floor) s; sweep = h .sweep }
 
+-- a head with its sweep stamp at the stamp, if it was lower
 abbrev pub lift-sweep : ℕ → Head → Head
 lift-sweep s h = record { floor = h .floor; sweep = max (h .sweep) s }
 

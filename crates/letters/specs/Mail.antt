@@ -34,6 +34,7 @@ is-full m = leb (m .places) (length (m .letters))
 abbrev pub send-answer : {L : Type 0} → Mail L → Result (Unit {0}) ℕ
 send-answer m = cond (is-full m) (Err 17) (Ok tt)
 
+-- the bag after a letter was sent: it stands last, if there was room
 abbrev pub sent : {L : Type 0} → Mail L → L → Mail L
 sent m x = cond (is-full m) m (record { letters = m .letters ++ x ∷ []; places = m .places })
 
@@ -41,8 +42,10 @@ sent m x = cond (is-full m) m (record { letters = m .letters ++ x ∷ []; places
 abbrev pub lose-answer : {L : Type 0} → Mail L → ℕ → Result (Unit {0}) ℕ
 lose-answer m i = cond (ltb i (length (m .letters))) (Ok tt) (Err 8)
 
+-- the bag after a letter was lost: the others keep their order
 abbrev pub lost : {L : Type 0} → Mail L → ℕ → Mail L
 lost m i = record { letters = without (m .letters) i; places = m .places }
 
+-- the bag with its letters taken out
 abbrev pub emptied : {L : Type 0} → Mail L → Mail L
 emptied m = record { letters = []; places = m .places }

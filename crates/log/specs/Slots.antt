@@ -11,6 +11,7 @@ use Rattle.names.specs.Paths.{same-path}
 use Rattle.store.specs.Meaning.{paths-of, among, place-in, join-pairs}
 use Rattle.log.specs.declared.slot.LogSlot.{LogSlot}
 
+-- the pair in a slot
 abbrev pub pair-of : {K : Type 0} → LogSlot K → Path × K
 pair-of s = (s .path, s .entry)
 
@@ -27,6 +28,7 @@ log-pairs join n ss = joined-to join [] (map pair-of (take n ss))
 abbrev pub with-path : List Path → Path → List Path
 with-path qs p = cond (among qs p) qs (qs ++ p ∷ [])
 
+-- several paths more, each if it is new
 abbrev pub with-paths : List Path → List Path → List Path
 with-paths qs [] = qs
 with-paths qs (p ∷ ps) = with-paths (with-path qs p) ps
@@ -35,6 +37,7 @@ with-paths qs (p ∷ ps) = with-paths (with-path qs p) ps
 abbrev pub arrivals : {K : Type 0} → List (LogSlot K) → List Path
 arrivals ss = with-paths [] (paths-of (map pair-of ss))
 
+-- the answer is that place
 abbrev pub is-place : Option ℕ → ℕ → Bool
 is-place None k = false
 is-place (Some m) k = eqb m k

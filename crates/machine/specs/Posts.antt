@@ -20,6 +20,7 @@ use Rattle.machine.specs.States.{State, Grounds, store-of, floor-of, with-stor
 
 -- Posting: a list of updates at one copy, all or none. A post has one update; kinds may have posting calls of their own.
 
+-- one of them passes, or one before them did
 abbrev pub some-more : {A : Type 0} → (A → Bool) → Bool → List A → Bool
 some-more f b [] = b
 some-more f b (x ∷ xs) = some-more f (b || f x) xs
@@ -34,6 +35,7 @@ abbrev pub all-joined : {K : Type 0} → Kind K → Meaning K → List (Path × 
 all-joined k m [] = m
 all-joined k m (x ∷ xs) = all-joined k (join-of (k .join) m (x .0) (x .1)) xs
 
+-- one of the updates finds the store full, or one before them did
 abbrev pub fills-more : {K : Type 0} → Kind K → Bool → Meaning K → List (Path × K) → Bool
 fills-more k b m [] = b
 fills-more k b m (x ∷ xs) = fills-more k (b || full-for m (x .0)) (join-of (k .join) m (x .0) (x .1)) xs
@@ -68,6 +70,7 @@ posting-grounds k s c xs own = update-grounds k s c xs ++ (own ++ (fills k (stor
 abbrev pub posted : {K : Type 0} → Kind K → State K → ℕ → List (Path × K) → State K
 posted k s c xs = with-store s c (all-joined k (store-of s c) xs)
 
+-- a posting: refused on the first of its grounds that fits, else joined
 abbrev pub posting : {K : Type 0} → Kind K → State K → ℕ → List (Path × K) → Grounds → Result (Unit {0}) ℕ × State K
 posting k s c xs own = settled (posting-grounds k s c xs own) s (tt, posted k s c xs)
 
@@ -96,6 +99,7 @@ mail-grounds s from to place =
     ∷ (is-full (s .bag), 17)
     ∷ []
 
+-- its step
 abbrev pub mail : {K : Type 0} → Kind K → State K → ℕ → ℕ → ℕ → Result (Unit {0}) ℕ × State K
 mail k s from to place = settled (mail-grounds s from to place) s (tt, letter-sent s (laden k News from to 0 0 (store-of s from) place))
 
@@ -126,10 +130,12 @@ handed k s l Entry = s
 handed k s l Stored = s
 handed k s l Noted = s
 
+-- the grounds of hand, for the letter of that number
 abbrev pub hand-grounds : {K : Type 0} → State K → Option (Letter K) → Grounds
 hand-grounds s None = (true, 8) ∷ []
 hand-grounds s (Some l) = tag-grounds s l (l .tag)
 
+-- the state after an accepted hand
 abbrev pub after-hand : {K : Type 0} → Kind K → State K → Option (Letter K) → State K
 after-hand k s None = s
 after-hand k s (Some l) = handed k s l (l .tag)
@@ -142,5 +148,6 @@ hand k s i = settled (hand-grounds s (letter-at (s .bag .letters) i)) s (tt, aft
 abbrev pub lose-grounds : {K : Type 0} → State K → ℕ → Grounds
 lose-grounds s i = (not (ltb i (length (s .bag .letters))), 8) ∷ []
 
+-- its step
 abbrev pub lose : {K : Type 0} → State K → ℕ → Result (Unit {0}) ℕ × State K
 lose s i = settled (lose-grounds s i) s (tt, with-bag s (lost (s .bag) i))

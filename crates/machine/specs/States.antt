@@ -39,12 +39,15 @@ sweep-of s c = getD (s .heads) c new-head .sweep
 abbrev pub next-copy : ℕ → ℕ → ℕ
 next-copy n c = cond (eqb (c + 1) n) 0 (c + 1)
 
+-- the state with another store of one copy
 abbrev pub with-store : {K : Type 0} → State K → ℕ → Meaning K → State K
 with-store s c m = record { copies = s .copies; heads = s .heads; stores = set (s .stores) c m; bag = s .bag }
 
+-- the state with other heads
 abbrev pub with-heads : {K : Type 0} → State K → List Head → State K
 with-heads s hs = record { copies = s .copies; heads = hs; stores = s .stores; bag = s .bag }
 
+-- the state with another bag
 abbrev pub with-bag : {K : Type 0} → State K → Mail (Letter K) → State K
 with-bag s b = record { copies = s .copies; heads = s .heads; stores = s .stores; bag = b }
 
@@ -73,6 +76,7 @@ abbrev pub first-ground : Grounds → Option ℕ
 first-ground [] = None
 first-ground (g ∷ gs) = cond (g .0) (Some (g .1)) (first-ground gs)
 
+-- the answer and the state by the first ground, if there is one
 abbrev pub decided : {A S : Type 0} → Option ℕ → S → A × S → Result A ℕ × S
 decided (Some g) before done = (Err g, before)
 decided None before done = (Ok (done .0), done .1)

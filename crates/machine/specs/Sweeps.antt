@@ -32,9 +32,11 @@ wrong-state = (true, 2) ∷ []
 abbrev pub begin-grounds : {K : Type 0} → State K → ℕ → ℕ → Grounds
 begin-grounds s c time = (no-copy s c, 6) ∷ (leb (stamp-at time c) (floor-of s c), 14) ∷ []
 
+-- the sweep that an accepted begin gives
 abbrev pub begun : {K : Type 0} → State K → ℕ → ℕ → Sweep
 begun s c time = collecting (stamp-at time c) c (next-copy (s .copies) c) None 0
 
+-- its step
 abbrev pub begin : {K : Type 0} → State K → ℕ → ℕ → Result Sweep ℕ × State K
 begin s c time = settled (begin-grounds s c time) s (begun s c time, floor-at s c (stamp-at time c))
 
@@ -43,10 +45,12 @@ abbrev pub asking : {K : Type 0} → Kind K → ℕ → ℕ → ℕ → Option �
 asking k stamp home in-hand None place = plain k Raise home in-hand stamp 0 0
 asking k stamp home in-hand (Some n) place = plain k Fetch home in-hand stamp place 0
 
+-- put of the place with what lies there at home, or swept when all places were put
 abbrev pub telling : {K : Type 0} → Kind K → State K → ℕ → ℕ → ℕ → ℕ → ℕ → Letter K
 telling k s stamp home in-hand count place =
     cond (eqb place count) (plain k Swept home in-hand stamp 0 0) (laden k Put home in-hand stamp place (store-of s home) place)
 
+-- the grounds of press
 abbrev pub press-grounds : {K : Type 0} → State K → Sweep → Grounds
 press-grounds s (collecting stamp home in-hand count place) = (no-copy s home || no-copy s in-hand, 6) ∷ (is-full (s .bag), 17) ∷ []
 press-grounds s (spreading stamp home in-hand count place) =
@@ -58,6 +62,7 @@ press-grounds s (collected stamp home) = wrong-state
 press-grounds s (finished stamp home) = wrong-state
 press-grounds s ended = wrong-state
 
+-- the state after an accepted press
 abbrev pub pressed : {K : Type 0} → Kind K → State K → Sweep → State K
 pressed k s (collecting stamp home in-hand count place) = letter-sent s (asking k stamp home in-hand count place)
 pressed k s (spreading stamp home in-hand count place) = letter-sent s (telling k s stamp home in-hand count place)
@@ -65,10 +70,11 @@ pressed k s (collected stamp home) = s
 pressed k s (finished stamp home) = s
 pressed k s ended = s
 
+-- its step
 abbrev pub press : {K : Type 0} → Kind K → State K → Sweep → Result (Unit {0}) ℕ × State K
 press k s w = settled (press-grounds s w) s (tt, pressed k s w)
 
--- the tags of replies
+-- the tag counted
 abbrev pub is-counted : Tag → Bool
 is-counted News = false
 is-counted Raise = false
@@ -80,6 +86,7 @@ is-counted Stored = false
 is-counted Swept = false
 is-counted Noted = false
 
+-- the tag entry
 abbrev pub is-entry : Tag → Bool
 is-entry News = false
 is-entry Raise = false
@@ -91,6 +98,7 @@ is-entry Stored = false
 is-entry Swept = false
 is-entry Noted = false
 
+-- the tag stored
 abbrev pub is-stored : Tag → Bool
 is-stored News = false
 is-stored Raise = false
@@ -102,6 +110,7 @@ is-stored Stored = true
 is-stored Swept = false
 is-stored Noted = false
 
+-- the tag noted
 abbrev pub is-noted : Tag → Bool
 is-noted News = false
 is-noted Raise = false
@@ -138,6 +147,7 @@ abbrev pub joining-grounds : {K : Type 0} → State K → ℕ → Option ℕ →
 joining-grounds s home None l = []
 joining-grounds s home (Some n) l = (full-for (store-of s home) (l .path), 16) ∷ []
 
+-- the grounds against the letter of that number, if there is one
 abbrev pub reply-grounds : {K : Type 0} → State K → ℕ → ℕ → ℕ → Option ℕ → ℕ → Option (Letter K) → Grounds
 reply-grounds s stamp home in-hand count place None = (true, 8) ∷ []
 reply-grounds s stamp home in-hand count place (Some l) =
@@ -157,6 +167,7 @@ abbrev pub read-reply : {K : Type 0} → Kind K → State K → ℕ → ℕ → 
 read-reply k s stamp home in-hand None place l = (went-on (s .copies) stamp home in-hand (l .count) 0, s)
 read-reply k s stamp home in-hand (Some n) place l = (went-on (s .copies) stamp home in-hand n (place + 1), joined-at k s home (l .path) (l .entry))
 
+-- sweep and state after an accepted collect
 abbrev pub after-collect : {K : Type 0} → Kind K → State K → Sweep → Option (Letter K) → Sweep × State K
 after-collect k s (collecting stamp home in-hand count place) None = (collecting stamp home in-hand count place, s)
 after-collect k s (collecting stamp home in-hand count place) (Some l) = read-reply k s stamp home in-hand count place l
@@ -165,6 +176,7 @@ after-collect k s (spreading stamp home in-hand count place) found = (spreading 
 after-collect k s (finished stamp home) found = (finished stamp home, s)
 after-collect k s ended found = (ended, s)
 
+-- the ground with what was before, or what comes after
 abbrev pub turned : {A : Type 0} → Option ℕ → A → A → Option ℕ × A
 turned (Some g) before after = (Some g, before)
 turned None before after = (None, after)
@@ -173,6 +185,7 @@ turned None before after = (None, after)
 abbrev pub moved : {A : Type 0} → Grounds → A → A → Option ℕ × A
 moved gs before after = turned (first-ground gs) before after
 
+-- its step
 abbrev pub collect : {K : Type 0} → Kind K → State K → Sweep → ℕ → Option ℕ × (Sweep × State K)
 collect k s w i =
     moved (collect-grounds s w (letter-at (s .bag .letters) i)) (w, s) (after-collect k s w (letter-at (s .bag .letters) i))
@@ -185,6 +198,7 @@ spread-grounds s (spreading stamp home in-hand count place) = wrong-state
 spread-grounds s (finished stamp home) = wrong-state
 spread-grounds s ended = wrong-state
 
+-- sweep and state after an accepted spread
 abbrev pub after-spread : {K : Type 0} → State K → Sweep → Sweep × State K
 after-spread s (collecting stamp home in-hand count place) = (collecting stamp home in-hand count place, s)
 after-spread s (collected stamp home) =
@@ -193,9 +207,11 @@ after-spread s (spreading stamp home in-hand count place) = (spreading stamp hom
 after-spread s (finished stamp home) = (finished stamp home, s)
 after-spread s ended = (ended, s)
 
+-- its step
 abbrev pub spread : {K : Type 0} → State K → Sweep → Option ℕ × (Sweep × State K)
 spread s w = moved (spread-grounds s w) (w, s) (after-spread s w)
 
+-- the grounds against the letter of that number, if there is one
 abbrev pub note-grounds : {K : Type 0} → ℕ → ℕ → ℕ → ℕ → ℕ → Option (Letter K) → Grounds
 note-grounds stamp home in-hand count place None = (true, 8) ∷ []
 note-grounds stamp home in-hand count place (Some l) = (not (is-reply stamp home in-hand l && wanted-note count place l), 9) ∷ []
@@ -216,6 +232,7 @@ noted-on n stamp home in-hand count place =
     (cond (eqb (next-copy n in-hand) home) (finished stamp home) (spreading stamp home (next-copy n in-hand) count 0))
     (spreading stamp home in-hand count (place + 1))
 
+-- the sweep after an accepted confirm
 abbrev pub after-confirm : {K : Type 0} → State K → Sweep → Sweep
 after-confirm s (collecting stamp home in-hand count place) = collecting stamp home in-hand count place
 after-confirm s (collected stamp home) = collected stamp home
@@ -223,6 +240,7 @@ after-confirm s (spreading stamp home in-hand count place) = noted-on (s .copies
 after-confirm s (finished stamp home) = finished stamp home
 after-confirm s ended = ended
 
+-- its step
 abbrev pub confirm : {K : Type 0} → State K → Sweep → ℕ → Option ℕ × (Sweep × State K)
 confirm s w i = moved (confirm-grounds s w (letter-at (s .bag .letters) i)) (w, s) (after-confirm s w, s)
 
@@ -242,6 +260,7 @@ abandon-grounds (spreading stamp home in-hand count place) = []
 abandon-grounds (finished stamp home) = wrong-state
 abandon-grounds ended = wrong-state
 
+-- the stamp of a sweep
 abbrev pub stamp-of : Sweep → ℕ
 stamp-of (collecting stamp home in-hand count place) = stamp
 stamp-of (collected stamp home) = stamp

@@ -52,9 +52,11 @@ pub record World (K : Type 0) : Type 0 where
 abbrev pub sweep-number : {K : Type 0} → World K → ℕ → Sweep
 sweep-number w j = getD (w .sweeps) j ended
 
+-- the world with another ring
 abbrev pub with-ring : {K : Type 0} → World K → State K → World K
 with-ring w s = record { ring = s; sweeps = w .sweeps; updates = w .updates }
 
+-- the world with another sweep of that number, and another ring
 abbrev pub with-sweep : {K : Type 0} → World K → ℕ → Sweep × State K → World K
 with-sweep w j x = record { ring = x .1; sweeps = set (w .sweeps) j (x .0); updates = w .updates }
 

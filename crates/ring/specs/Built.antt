@@ -32,19 +32,24 @@ state-of b g r = record { copies = r .copies; heads = r .heads .table; stores = 
 abbrev pub of-collecting : Collecting → Sweep
 of-collecting w = collecting (w .stamp) (w .home) (w .«in_hand») (w .count) (w .place)
 
+-- one that has collected
 abbrev pub of-collected : Collected → Sweep
 of-collected w = collected (w .stamp) (w .home)
 
+-- one that spreads
 abbrev pub of-spreading : Spreading → Sweep
 of-spreading w = spreading (w .stamp) (w .home) (w .«in_hand») (w .count) (w .place)
 
+-- one that is finished
 abbrev pub of-finished : Finished → Sweep
 of-finished w = finished (w .stamp) (w .home)
 
+-- what collect leaves of a sweep
 abbrev pub of-when-collected : WhenCollected → Sweep
 of-when-collected (collects.More w) = of-collecting w
 of-when-collected (collects.Done w) = of-collected w
 
+-- what confirm leaves of a sweep
 abbrev pub of-when-confirmed : WhenConfirmed → Sweep
 of-when-confirmed (confirms.More w) = of-spreading w
 of-when-confirmed (confirms.Done w) = of-finished w
@@ -64,10 +69,12 @@ abbrev pub collected-by : {S : Type 0} → Result WhenCollected (Refused Collect
 collected-by (Ok t) s = (None, (of-when-collected t, s))
 collected-by (Err e) s = (Some (ground-number (e .ground)), (of-collecting (e .sweep), s))
 
+-- the answer of spread
 abbrev pub spread-by : {S : Type 0} → Result Spreading (Refused Collected) → S → Option ℕ × (Sweep × S)
 spread-by (Ok w) s = (None, (of-spreading w, s))
 spread-by (Err e) s = (Some (ground-number (e .ground)), (of-collected (e .sweep), s))
 
+-- the answer of confirm
 abbrev pub confirmed-by : {S : Type 0} → Result WhenConfirmed (Refused Spreading) → S → Option ℕ × (Sweep × S)
 confirmed-by (Ok t) s = (None, (of-when-confirmed t, s))
 confirmed-by (Err e) s = (Some (ground-number (e .ground)), (of-spreading (e .sweep), s))

@@ -49,9 +49,11 @@ abbrev pub open-answer : Option ℕ → ℕ → Result ℕ ℕ
 open-answer None n = Ok n
 open-answer (Some g) n = Err g
 
+-- a check: the number of copies or the first ground, and stores and bag as they were
 abbrev pub open-check : {K : Type 0} → List (Meaning K) → Mail (Letter K) → Result ℕ ℕ × (List (Meaning K) × Mail (Letter K))
 open-check stores bag = (open-answer (first-ground (open-grounds stores bag)) (length stores), (stores, bag))
 
+-- the same, of the built check
 abbrev pub checked-by : {K B G : Type 0} → Banks B K → Bags G (Letter K) → Result (Opening K B G) (NotOpened B G) → Result ℕ ℕ × (List (Meaning K) × Mail (Letter K))
 checked-by b g (Ok o) = (Ok (o .copies), (b .meanings (o .stores), g .mail (o .bag)))
 checked-by b g (Err e) = (Err (ground-number (e .ground)), (b .meanings (e .stores), g .mail (e .bag)))

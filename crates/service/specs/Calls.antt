@@ -43,6 +43,7 @@ of-call (Confirm sweep letter) = machine.confirm sweep letter
 of-call (Close sweep) = machine.close sweep
 of-call (Abandon sweep) = machine.abandon sweep
 
+-- what the built call got
 abbrev pub of-got : Got → machine.Got
 of-got Nothing = machine.nothing
 of-got More = machine.more
@@ -65,6 +66,7 @@ answer-of (Ok g) = Some (Ok (of-got g))
 answer-of (Err (Refused g)) = Some (Err (ground-number g))
 answer-of (Err NoMemory) = None
 
+-- each built sweep
 abbrev pub of-held : Held → Sweep
 of-held (held.Collecting w) = of-collecting w
 of-held (held.Collected w) = of-collected w
@@ -72,6 +74,7 @@ of-held (held.Spreading w) = of-spreading w
 of-held (held.Finished w) = of-finished w
 of-held held.Ended = ended
 
+-- the sweep that is kept
 abbrev pub of-kept : Kept → Sweep
 of-kept x = of-held (x .0)
 

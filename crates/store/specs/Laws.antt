@@ -11,6 +11,7 @@ use Rattle.names.specs.declared.path.Path.{Path}
 use Rattle.names.specs.Paths.{same-path, no-path}
 use Rattle.store.specs.Meaning.{Meaning, Sound, count-of, place-of, path-at, entry-at, full-for, join-of}
 
+-- the entry of the first pair with the path
 abbrev pub entry-under : {K : Type 0} → List (Path × K) → Path → Option K
 entry-under [] p = None
 entry-under (x ∷ xs) p = cond (same-path (x .0) p) (Some (x .1)) (entry-under xs p)

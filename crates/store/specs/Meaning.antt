@@ -26,10 +26,12 @@ empty-store n = record { pairs = []; places = n }
 abbrev pub no-store : {K : Type 0} → Meaning K
 no-store = empty-store 0
 
+-- the paths of pairs
 abbrev pub paths-of : {K : Type 0} → List (Path × K) → List Path
 paths-of [] = []
 paths-of (x ∷ xs) = x .0 ∷ paths-of xs
 
+-- the entries of pairs
 abbrev pub entries-of : {K : Type 0} → List (Path × K) → List K
 entries-of [] = []
 entries-of (x ∷ xs) = x .1 ∷ entries-of xs
@@ -62,18 +64,23 @@ path-in ps i = getD (paths-of ps) i no-path
 abbrev pub entry-in : {K : Type 0} → K → List (Path × K) → ℕ → K
 entry-in blank ps i = getD (entries-of ps) i blank
 
+-- how many pairs a store holds
 unfoldable pub count-of : {K : Type 0} → Meaning K → ℕ
 count-of m = length (m .pairs)
 
+-- a store holds the path
 unfoldable pub holds : {K : Type 0} → Meaning K → Path → Bool
 holds m p = among (paths-of (m .pairs)) p
 
+-- the place of a path in a store
 unfoldable pub place-of : {K : Type 0} → Meaning K → Path → Option ℕ
 place-of m p = place-in (paths-of (m .pairs)) p
 
+-- the path at a place of a store
 unfoldable pub path-at : {K : Type 0} → Meaning K → ℕ → Path
 path-at m i = path-in (m .pairs) i
 
+-- the entry at a place of a store, or the blank one
 unfoldable pub entry-at : {K : Type 0} → K → Meaning K → ℕ → K
 entry-at blank m i = entry-in blank (m .pairs) i
 
