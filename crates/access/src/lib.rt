@@ -1,4 +1,6 @@
 // Writes to a recipe ring that a rights ring has to grant (docs/RULES.md, "Guarded writes").
+#![tactic(auto)]
+
 ghost use Rattle.std.specs.Prelude.{◌≡◌, ℕ, true, false, ◌↔◌, Some, Ok, Err, codes};
 ghost use Rattle.grounds.specs.Grounds.{by_number};
 ghost use Rattle.names.specs.Labels.{read_label};

@@ -1,5 +1,7 @@
 // What the copies of a ring agree on after any list of calls, proved of the plain machine
 // (docs/RULES.md, "What copies agree on").
+#![tactic(auto)]
+
 ghost use Rattle.machine.specs.Kinds.{kind_of};
 ghost use Rattle.agreement.specs.Agreement.{Agreement, AnyOrder, FinishedEverywhere, StoresSound};
 ghost use Rattle.agreement.specs.Example.{Example};

@@ -1,5 +1,7 @@
 // The kinds of entry: what a store asks of a kind, what a ring asks besides, and the two kinds that there are
 // (docs/RULES.md, "Kinds of entry").
+#![tactic(auto)]
+
 mod kind;
 mod recipe;
 mod rights;

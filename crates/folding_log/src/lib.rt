@@ -1,5 +1,7 @@
 // The log: a store that appends each pair, in slots that the caller lends, and folds them to one a path
 // when they are used up.
+#![tactic(auto)]
+
 ghost use Rattle.std.specs.Prelude.{◌≡◌, ◌/◌, ◌≤◌, true, length, take};
 ghost use Rattle.folding_log.specs.Slots.{arrivals, placed};
 

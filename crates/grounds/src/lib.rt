@@ -1,4 +1,6 @@
 // Why a call was refused: the twenty grounds, each with its number (docs/RULES.md, "Grounds of refusal").
+#![tactic(auto)]
+
 ghost use Rattle.std.specs.Prelude.{◌≡◌};
 ghost use Rattle.grounds.specs.Grounds.{ground_number};
 

@@ -1,5 +1,6 @@
 // A tour of guarded writes: an engineer's writes before a grant, under it, and after it was withdrawn, with a note for
 // each.
+#![tactic(auto)]
 
 mod guarded;
 mod making;

@@ -1,4 +1,6 @@
 // The heads of a ring: for each copy its floor and its sweep stamp (docs/RULES.md, "The ring").
+#![tactic(auto)]
+
 ghost use Rattle.std.specs.Prelude.{◌≡◌, length, replicate, slice_index_or};
 ghost use Rattle.heads.specs.Heads.{new_head, lift_floor, lift_sweep, floor_lifted, sweep_lifted};
 

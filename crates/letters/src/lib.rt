@@ -1,4 +1,6 @@
 // Letters between the copies of a ring, and the bag that they travel in (docs/RULES.md, "The ring").
+#![tactic(auto)]
+
 mod bag;
 mod letter;
 

@@ -1,4 +1,6 @@
 // Lines of the replay program: reads a line, and tells what it asks for (docs/RULES.md, "Replay").
+#![tactic(auto)]
+
 mod forms;
 mod laws;
 mod line;

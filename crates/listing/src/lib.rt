@@ -1,4 +1,6 @@
 // Listing a directory: its shown paths with their contents, in path order (docs/RULES.md, "Reading a name").
+#![tactic(auto)]
+
 mod listed;
 mod lists;
 

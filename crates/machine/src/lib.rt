@@ -1,5 +1,7 @@
 // The plain machine: what each call on a ring does, in plain lists and numbers. The contracts of the built ring
 // and the promises over whole runs cite these definitions (docs/RULES.md, "The ring" to "Sweeps").
+#![tactic(auto)]
+
 ghost use Rattle.machine.specs.Kinds.{kind_of};
 ghost use Rattle.machine.specs.Refusals.{RefusedChangesNothing};
 

@@ -1,5 +1,7 @@
 // Names: labels, the paths made of them, and the stamps that date what is said under a path
 // (docs/RULES.md, "Stamps, labels, paths").
+#![tactic(auto)]
+
 mod label;
 mod path;
 mod stamp;

@@ -1,5 +1,7 @@
 // Reading a name: which entries are shown, what a lookup answers, and the growth of a directory above another
 // (docs/RULES.md, "Reading a name" and "Growth").
+#![tactic(auto)]
+
 mod growth;
 mod lookups;
 mod shown;

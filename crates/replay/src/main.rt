@@ -1,5 +1,7 @@
 // The replay: reads calls from standard input, one a line, makes them, and writes a report of each to standard output
 // (docs/RULES.md, "Replay"). What it writes of an input is `replaying::replay`'s to say.
+#![tactic(auto)]
+
 ghost use Rattle.std.specs.Prelude.{◌≡◌, ◌+◌, length, IfOk};
 
 use replaying::{LIMIT, replay};

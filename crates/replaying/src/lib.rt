@@ -1,4 +1,6 @@
 // The replay, as functions from an input to its report (docs/RULES.md, "Replay").
+#![tactic(auto)]
+
 mod answering;
 mod findings;
 mod laws;

@@ -1,5 +1,7 @@
 // The report of a replay: what each line came to, and how a line of the report is written
 // (docs/RULES.md, "Replay").
+#![tactic(auto)]
+
 mod finding;
 mod line;
 mod says;

@@ -1,5 +1,7 @@
 // A ring of copies, its letters and its sweeps (docs/RULES.md, "The ring" to "Sweeps").
 // Each call's contract is one equation: its answer and the ring after it are the plain machine's.
+#![tactic(auto)]
+
 mod begin;
 mod collecting;
 mod hand;

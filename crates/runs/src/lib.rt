@@ -1,5 +1,7 @@
 // Runs: lists of calls on a ring of recipe entries just opened, and what is promised of every one of them
 // (docs/RULES.md, "What copies agree on").
+#![tactic(auto)]
+
 mod calling;
 mod follow;
 mod ran;

@@ -1,4 +1,6 @@
 // A ring in service: the ring, and the sweeps that are under way on it, reached by calls as data.
+#![tactic(auto)]
+
 mod call;
 mod held;
 mod on_ring;

@@ -1,5 +1,7 @@
 // Stores: what one means, the interface that every build of one has, and a row of stores told by a number
 // (docs/RULES.md, "Stores").
+#![tactic(auto)]
+
 mod bank;
 mod laws;
 mod one;

@@ -1,4 +1,6 @@
 // The table: a store that keeps one slot for each path, in slots that the caller lends.
+#![tactic(auto)]
+
 ghost use Rattle.std.specs.Prelude.{◌≡◌, ◌≤◌, true, map, length, take};
 ghost use Rattle.store.specs.Meaning.{distinct, paths_of};
 ghost use Rattle.table.specs.Slots.{pair_of};

@@ -2,9 +2,9 @@
 use crate::making::{label, path, said};
 use crate::notes;
 use entries::{Content, Joinable, Recipe};
+use folding_log::{Log, LogSlot};
 use grounds::Ground;
 use letters::{Bag, Letter, Tag};
-use folding_log::{Log, LogSlot};
 use names::{Label, Path, stamp_at};
 use ring::Opening;
 use service::{Call, Got, RecipeCall, Service, Trouble};

@@ -1,4 +1,5 @@
 // The tour: a real task carried through, with a note for each step of what was done and what is now held.
+#![tactic(auto)]
 
 mod bakeries;
 mod making;

@@ -1,4 +1,6 @@
 // The tray: a bag of letters in memory that the caller lends.
+#![tactic(auto)]
+
 ghost use Rattle.std.specs.Prelude.{◌≤◌, length};
 
 mod tray_bag;

@@ -1,8 +1,8 @@
 // What a trial asks of a ring in service, what comes of it, and how a table of both is gone through.
 use crate::making::{RECIPES, label};
 use entries::{Content, Joinable, Recipe};
-use letters::{Bag, Letter, Tag};
 use folding_log::{Log, LogSlot};
+use letters::{Bag, Letter, Tag};
 use names::{Label, Path, Stamp};
 use reading::{Answer, Refusal};
 use ring::Opening;

@@ -1,5 +1,7 @@
 // Trials: the edge cases and the errors that a test must catch (docs/RULES.md, "Edge cases"), run on the built code.
 // Each trial is a table of what is asked and what is due.
+#![tactic(auto)]
+
 #[cfg(test)]
 mod asking;
 #[cfg(test)]

@@ -12,7 +12,7 @@ returns g c =
     let t = state_of g.C.Bank g.H.Bag c.args.rights.now in
     let after : Result (Unit {0}) ℕ × State Recipe = (by_number c.post.result, state_of g.B.Bank g.G.Bag c.post.new.self) in
     let machine =
-    post_is_write s t c.args.copy c.args.role c.args.path c.args.entry after _ _ c.copies-else-copy-copies.ensures c.if-copy-copies-2.false c.is_granted.ensures c.if-not-is-granted.false c.post.ensures in
+    post_is_write s t c.args.copy c.args.role c.args.path c.args.entry after _ _ c.copies-else-copy-copies.ensures c.if-copy-copies-2.false c.is_granted.ensures c.if-not-is_granted.false c.post.ensures in
     record {
       machine = machine;
       posted = accepted_is_post s t c.args.copy c.args.role c.args.path c.args.entry after machine;

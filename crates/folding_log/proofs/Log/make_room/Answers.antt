@@ -3,8 +3,8 @@ use Rattle.folding_log.specs.Slots.{log_pairs, pair_of, placed}
 use Rattle.folding_log.proofs.Folds.{folded_pairs, folded_arrivals, folded_paths, folded_length}
 use Rattle.folding_log.proofs.Log.make_room.Goals as goal
 
-pub invariant-of-self : goal.invariant-of-self
-invariant-of-self g c =
+pub invariant_of-self : goal.invariant_of-self
+invariant_of-self g c =
     let t = c.args.self.now in
     let j = g.K.Joinable.joined in
     let r = c.fold-folded.result in

@@ -3,8 +3,8 @@ use Rattle.std.specs.Char.{is_ascii_digit}
 use Rattle.lines.proofs.Digits.{number_no_digit, number_too_large, number_more, number_all}
 use Rattle.lines.proofs.number.read_number.Goals as goal
 
-pub returns-then-not-is-ascii-digit : goal.returns-then-not-is-ascii-digit
-returns-then-not-is-ascii-digit c = search (rules, number_no_digit)
+pub returns-then-not-is_ascii_digit : goal.returns-then-not-is_ascii_digit
+returns-then-not-is_ascii_digit c = search (rules, number_no_digit)
 
 pub returns-then-value : goal.returns-then-value
 returns-then-value c = search (rules, number_too_large)

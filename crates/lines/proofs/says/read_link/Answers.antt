@@ -12,9 +12,9 @@ returns c =
     let bs = c.args.text.now in
     let n = c.before-colon.result in
     let k : n - 0 ≡ n = omega arith in
-    let directory = c.in-ok-directory.ensures ∙ ap (λ m. read_number (take m bs)) k in
-    let label = c.label-or-none-label.ensures ∙ ap label_in c.rest-of.ensures in
-    ap (λ l. Some (Link c.in-ok-directory.directory l)) label
+    let directory = c.in_ok-directory.ensures ∙ ap (λ m. read_number (take m bs)) k in
+    let label = c.label_or_none-label.ensures ∙ ap label_in c.rest_of.ensures in
+    ap (λ l. Some (Link c.in_ok-directory.directory l)) label
     ∙ ap (λ o. o then (λ d. Some (Link d (label_in (drop (n + 1) bs))))) directory
     ∙ sym (ap (λ t. cond t None (read_number (take n bs) then (λ d. Some (Link d (label_in (drop (n + 1) bs)))))) (ne_eqb n (length bs) c.if-colon-text.false))
     ∙ ap (λ m. link_at m bs) c.before-colon.ensures.value

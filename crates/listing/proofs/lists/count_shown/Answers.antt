@@ -7,8 +7,8 @@ use Rattle.listing.proofs.lists.count_shown.Goals.{in-Some, in-None}
 pub places-init : goal.places-init
 places-init g c = counted_start _ _
 
-pub overflow-add-total : goal.overflow-add-total
-overflow-add-total g c = record { fits = omega (arith, c.places.invariant.few, c.count-place-end.type-inv) }
+pub overflow_add-total : goal.overflow_add-total
+overflow_add-total g c = record { fits = omega (arith, c.places.invariant.few, c.count-place-end.type_inv) }
 
 pub places-preserved : goal.places-preserved
 places-preserved g c =

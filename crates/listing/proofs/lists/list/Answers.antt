@@ -17,10 +17,10 @@ returns g c =
     let m = g.S.Readable.meaning c.args.store.now in
     let d = c.args.directory in
     let memory = c.args.memory.now in
-    let total = c.count-shown-total.result in
+    let total = c.count_shown-total.result in
     let sound = g.S.Readable.sound c.args.store.now in
     let long : length (all_picks m d) ≤ length memory = omega arith in
     let all : total - 0 ≡ length (all_picks m d) = omega arith in
-    let sorted = sorted_front m d sound (total - 0) memory c.write-shown.new.memory c.sort.new.self all c.write-shown.ensures c.sort.ensures.permutation (c.sort.ensures.sorted by_path) in
-    let said = long_answer m d memory _ total long c.count-shown-total.ensures sorted in
+    let sorted = sorted_front m d sound (total - 0) memory c.write_shown.new.memory c.sort.new.self all c.write_shown.ensures c.sort.ensures.permutation (c.sort.ensures.sorted by_path) in
+    let said = long_answer m d memory _ total long c.count_shown-total.ensures sorted in
     record { answer = said.0; after = said.1; listed = answer_lists m d sound memory _ _ said.0 said.1 }

@@ -15,8 +15,8 @@ bounds-memory-total g c =
     let le : length (all_picks m c.args.directory) ≤ length c.places.memory = omega (arith, c.requires, c.places.auto.memory) in
     counted_room m c.args.directory c.places.place c.places.total _ _ lt c.in-Some.ensures le c.places.invariant.0
 
-pub offset-bounds-memory-total : goal.offset-bounds-memory-total
-offset-bounds-memory-total g c = let lt = bounds-memory-total g c in search rules
+pub offset_bounds-memory-total : goal.offset_bounds-memory-total
+offset_bounds-memory-total g c = let lt = bounds-memory-total g c in search rules
 
 pub places-preserved : goal.places-preserved
 places-preserved g c =

@@ -2,8 +2,8 @@ use Rattle.std.proofs.Common.{rules}
 use Rattle.names.proofs.Bytes.{legal_stop, legal_more, legal_all}
 use Rattle.names.proofs.label.are_label_bytes.Goals as goal
 
-pub returns-then-not-is-label-byte : goal.returns-then-not-is-label-byte
-returns-then-not-is-label-byte c = search (rules, legal_stop)
+pub returns-then-not-is_label_byte : goal.returns-then-not-is_label_byte
+returns-then-not-is_label_byte c = search (rules, legal_stop)
 
 pub bytes-preserved : goal.bytes-preserved
 bytes-preserved c = search (rules, legal_more)

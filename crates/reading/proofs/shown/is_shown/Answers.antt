@@ -4,5 +4,5 @@ use Rattle.reading.proofs.shown.is_shown.Goals as goal
 
 pub returns : goal.returns
 returns g c =
-    let value = c.is-some.ensures ∙ ap is_some c.shown_entry.ensures in
+    let value = c.is_some.ensures ∙ ap is_some c.shown_entry.ensures in
     record { value = value; exactly = shown_exactly _ _ _ value }

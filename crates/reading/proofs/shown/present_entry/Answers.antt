@@ -9,10 +9,10 @@ returns-in-None g c = sym (ap unless_absent (not_found (g.S.Readable.meaning c.a
 
 pub returns-in-Absent : goal.returns-in-Absent
 returns-in-Absent g c =
-    let e = found _ (g.S.Readable.meaning c.args.store.now) c.args.path.now _ _ c.in-Some.ensures c.entry-at-found.ensures in
-    sym (ap unless_absent e ∙ absent_none c.entry-at-found.result c.in-Absent.is)
+    let e = found _ (g.S.Readable.meaning c.args.store.now) c.args.path.now _ _ c.in-Some.ensures c.entry_at-found.ensures in
+    sym (ap unless_absent e ∙ absent_none c.entry_at-found.result c.in-Absent.is)
 
 pub returns-in-default : goal.returns-in-default
 returns-in-default g c =
-    let e = found _ (g.S.Readable.meaning c.args.store.now) c.args.path.now _ _ c.in-Some.ensures c.entry-at-found.ensures in
-    sym (ap unless_absent e ∙ present_some c.entry-at-found.result c.in-default.not-Absent)
+    let e = found _ (g.S.Readable.meaning c.args.store.now) c.args.path.now _ _ c.in-Some.ensures c.entry_at-found.ensures in
+    sym (ap unless_absent e ∙ present_some c.entry_at-found.result c.in_default.not-Absent)

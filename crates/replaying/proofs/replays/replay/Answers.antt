@@ -34,6 +34,6 @@ returns c =
     ∙ ap (λ (m : Meaning Recipe). empty_store 64 ∷ m ∷ log_meaning join_recipes c.new-3.result ∷ []) b
     ∙ ap (λ (m : Meaning Recipe). empty_store 64 ∷ empty_store 64 ∷ m ∷ []) d in
     record {
-      report = text_is string_bytes c.replayed-over-three.result (replayed 1 at_first (lines_of bs)).0 (report_of bs) (sym (cond-false _ _ _ (le-ltb 60000 (length bs) short))) (on_its_ring string_bytes ms (tray_mail c.new-4.result) same e bs c.replayed-over-three.result c.replayed-over-three.ensures);
+      report = text_is string_bytes c.replayed_over_three.result (replayed 1 at_first (lines_of bs)).0 (report_of bs) (sym (cond-false _ _ _ (le-ltb 60000 (length bs) short))) (on_its_ring string_bytes ms (tray_mail c.new-4.result) same e bs c.replayed_over_three.result c.replayed_over_three.ensures);
       covered = covered bs;
     }

@@ -18,16 +18,16 @@ lines-preserved g c =
     let some : 0 < length rest = search rules in
     let n = c.before-length.result in
     let x = serving g.B.Bank g.G.Bag c.lines.service in
-    let y = serving g.B.Bank g.G.Bag c.line-answered.new.service in
+    let y = serving g.B.Bank g.G.Bag c.line_answered.new.service in
     let said = string_bytes c.lines.report in
     let k = c.lines.number + 1 in
-    let f = c.in-ok-finding.finding in
+    let f = c.in_ok-finding.finding in
     let one : k ≡ suc c.lines.number = omega arith in
     let whole : n - 0 ≡ before_byte 10 rest = omega (arith, c.before-length.ensures.value) in
-    let more : string_bytes c.append.new.report ≡ said ++ report_line k f = c.in-ok-append.ensures in
+    let more : string_bytes c.append.new.report ≡ said ++ report_line k f = c.in_ok-append.ensures in
     let next : c.past-rest.result.now ≡ drop (suc (before_byte 10 rest)) rest = c.past-rest.ensures ∙ ap (λ j. drop (suc j) rest) c.before-length.ensures.value in (
       ap (λ (bs : List _). Left bs (suc k) y (lines_of c.past-rest.result.now)) more
-          ∙ one_more said k x y f (take (n - 0) rest) (lines_of c.past-rest.result.now) c.in-ok-finding.ensures
+          ∙ one_more said k x y f (take (n - 0) rest) (lines_of c.past-rest.result.now) c.in_ok-finding.ensures
           ∙ ap (λ j. Left said k x (take j rest ∷ lines_of c.past-rest.result.now)) whole
           ∙ ap (λ bs. Left said k x (take (before_byte 10 rest) rest ∷ lines_of bs)) next
           ∙ ap (Left said k x) (sym (first_line rest some))

@@ -11,7 +11,7 @@ returns-then-number-len c =
     let xs = vec_items v in
     let lt : c.args.number < length xs = omega (arith, v.ok.0, c.len.ensures, c.if-number-len.true) in
     record {
-      sweep = ap of_held c.give.ensures ∙ ap of_kept (c.replace.ensures.value ∙ c.index-mut.ensures.value) ∙ sym (get_or-map of_kept xs c.args.number c.index-mut.result.now ended lt);
+      sweep = ap of_held c.give.ensures ∙ ap of_kept (c.replace.ensures.value ∙ c.index_mut.ensures.value) ∙ sym (get_or-map of_kept xs c.args.number c.index_mut.result.now ended lt);
       after = ap (λ x. map of_kept (set xs c.args.number x)) c.replace.ensures.after ∙ map-set of_kept xs c.args.number c.new.result ∙ ap (λ x. set (map of_kept xs) c.args.number (of_held x)) c.new.ensures;
     }
 

@@ -2,8 +2,8 @@ use Rattle.std.proofs.Common.{rules}
 use Rattle.entries.specs.Roles.{below_stop, below_more, below_all}
 use Rattle.entries.proofs.rights.RightsDated.is_sound.Goals as goal
 
-pub returns-then-not-is-role-number : goal.returns-then-not-is-role-number
-returns-then-not-is-role-number c = search (rules, below_stop)
+pub returns-then-not-is_role_number : goal.returns-then-not-is_role_number
+returns-then-not-is_role_number c = search (rules, below_stop)
 
 pub roles-preserved : goal.roles-preserved
 roles-preserved c = search (rules, below_more)

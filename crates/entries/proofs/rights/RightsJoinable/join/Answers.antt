@@ -11,5 +11,5 @@ returns c =
     let la : length a ≡ 8 = search rules in
     let lb : length b ≡ 8 = search rules in
     let lg = length_greater a b (la ∙ sym lb) in
-    let lr : length c.greater-of-each.result ≡ 8 = search rules in
-    ap of_roles (ext_get_or 0 _ (greater a b) (omega arith) (λ k h. c.greater-of-each.ensures k (omega arith) ∙ sym (get_or_greater a b k)))
+    let lr : length c.greater_of_each.result ≡ 8 = search rules in
+    ap of_roles (ext_get_or 0 _ (greater a b) (omega arith) (λ k h. c.greater_of_each.ensures k (omega arith) ∙ sym (get_or_greater a b k)))

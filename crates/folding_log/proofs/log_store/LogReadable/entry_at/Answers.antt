@@ -38,4 +38,4 @@ returns g c =
     let ps = log_pairs g.K.Joinable.joined t.used t.slots.now in
     let e : c.slots.i ≡ t.used = omega arith in
     let whole : c.slots.whole ≡ held_at ps k = c.slots.invariant ∙ ap (λ n. held_at (log_pairs g.K.Joinable.joined n t.slots.now) k) e in
-    c.unwrap-or.ensures ∙ ap (unwrap_or c.slots.whole) c.blank.ensures ∙ ap (λ o. unwrap_or o b) whole ∙ held_value b ps k
+    c.unwrap_or.ensures ∙ ap (unwrap_or c.slots.whole) c.blank.ensures ∙ ap (λ o. unwrap_or o b) whole ∙ held_value b ps k

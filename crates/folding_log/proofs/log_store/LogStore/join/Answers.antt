@@ -11,7 +11,7 @@ use Rattle.folding_log.proofs.log_store.LogStore.join.Goals as goal
 
 pub returns-in-default : goal.returns-in-default
 returns-in-default g c =
-    let full = log_unseated g.K.Joinable.joined c.args.self.now c.args.path c.find-found.result c.find-found.ensures c.in-default.ensures in
+    let full = log_unseated g.K.Joinable.joined c.args.self.now c.args.path c.find-found.result c.find-found.ensures c.in_default.ensures in
     record { answer = sym (cond-true _ _ _ full); after = sym (join_refused _ _ _ _ full) }
 
 pub append-requires : goal.append-requires
@@ -20,14 +20,14 @@ append-requires g c =
     let j = g.K.Joinable.joined in
     let p = c.args.path in
     let new : LogSlot g.row.K.Denot = record { path = p; entry = c.args.entry; place = c.in-Some.place } in
-    let t' = c.make-room.new.self in
+    let t' = c.make_room.new.self in
     let ss = t'.slots.now in
     let s = log_seated j t p c.find-found.result c.find-found.ensures _ _ c.in-Some.ensures in
-    let free = c.make-room.ensures.free (omega (arith, s.some, t.half)) in
-    let paths : paths_of (log_pairs j t.used t.slots.now) ≡ arrivals (take t'.used ss) = sym (ap paths_of c.make-room.ensures.pairs) ∙ joined_paths j [] (map pair_of (take t'.used ss)) in
+    let free = c.make_room.ensures.free (omega (arith, s.some, t.half)) in
+    let paths : paths_of (log_pairs j t.used t.slots.now) ≡ arrivals (take t'.used ss) = sym (ap paths_of c.make_room.ensures.pairs) ∙ joined_paths j [] (map pair_of (take t'.used ss)) in
     record {
       free = free;
-      half = omega (arith, s.within, c.make-room.ensures.slots);
+      half = omega (arith, s.within, c.make_room.ensures.slots);
       counted = s.counts ∙ ap (λ qs. length (with_path qs p)) paths ∙ sym (ap length (push_arrivals t'.used ss new free));
       numbered = push_placed t'.used ss new free t'.numbered (ap (λ qs. place_in (with_path qs p) p) (sym paths) ∙ s.stands);
     }
@@ -37,9 +37,9 @@ returns g c =
     let t = c.args.self.now in
     let j = g.K.Joinable.joined in
     let new : LogSlot g.row.K.Denot = record { path = c.args.path; entry = c.args.entry; place = c.in-Some.place } in
-    let t' = c.make-room.new.self in
+    let t' = c.make_room.new.self in
     let s = log_seated j t c.args.path c.find-found.result c.find-found.ensures _ _ c.in-Some.ensures in
-    let pairs = push_pairs t'.used t'.slots.now new (c.make-room.ensures.free (omega (arith, s.some, t.half))) j in
+    let pairs = push_pairs t'.used t'.slots.now new (c.make_room.ensures.free (omega (arith, s.some, t.half))) j in
     let long = length-set t'.slots.now t'.used new in
     let whole : log_meaning j c.append.new.self ≡ record { pairs = join_pairs j (log_pairs j t.used t.slots.now) c.args.path c.args.entry; places = (log_meaning j t).places } = cc in
     record { answer = sym (cond-false _ _ _ s.room); after = whole ∙ sym (join_taken j (log_meaning j t) c.args.path c.args.entry s.room) }

@@ -8,7 +8,7 @@ pub returns-in-default : goal.returns-in-default
 returns-in-default c =
     let n = c.before-slash.result in
     let k : n - 0 ≡ n = omega arith in
-    bad_label c.args.limit c.args.text.now c.parts.rest.now _ c.parts.invariant.0 n c.before-slash.ensures.value c.before-slash.ensures.inside (c.in-default.ensures.value ∙ ap (λ m. read_label (take m c.parts.rest.now)) k)
+    bad_label c.args.limit c.args.text.now c.parts.rest.now _ c.parts.invariant.0 n c.before-slash.ensures.value c.before-slash.ensures.inside (c.in_default.ensures.value ∙ ap (λ m. read_label (take m c.parts.rest.now)) k)
 
 pub returns-then-count-limit : goal.returns-then-count-limit
 returns-then-count-limit c =
@@ -31,11 +31,11 @@ parts-preserved c =
     let count = c.parts.count in
     let labels = c.parts.labels in
     let k : n - 0 ≡ n = omega arith in (
-      more_labels c.args.limit c.args.text.now c.parts.rest.now _ c.parts.invariant.0 n c.before-slash.ensures.value c.before-slash.ensures.inside c.in-Some.label (take (count + 1) (set labels count c.in-Some.label)) c.rest-of-rest.result.now
-          (c.in-Some.ensures.value ∙ ap (λ m. read_label (take m c.parts.rest.now)) k) (omega arith) (take_more_set labels count c.in-Some.label (omega arith)) c.rest-of-rest.ensures,
+      more_labels c.args.limit c.args.text.now c.parts.rest.now _ c.parts.invariant.0 n c.before-slash.ensures.value c.before-slash.ensures.inside c.in-Some.label (take (count + 1) (set labels count c.in-Some.label)) c.rest_of-rest.result.now
+          (c.in-Some.ensures.value ∙ ap (λ m. read_label (take m c.parts.rest.now)) k) (omega arith) (take_more_set labels count c.in-Some.label (omega arith)) c.rest_of-rest.ensures,
       omega arith,
       length-set labels count c.in-Some.label ∙ c.parts.invariant.2,
     )
 
 pub parts-smaller : goal.parts-smaller
-parts-smaller c = omega (arith, ap length c.rest-of-rest.ensures, length-drop (c.before-slash.result + 1) c.parts.rest.now)
+parts-smaller c = omega (arith, ap length c.rest_of-rest.ensures, length-drop (c.before-slash.result + 1) c.parts.rest.now)

@@ -7,5 +7,5 @@ pub returns : goal.returns
 returns c =
     let self = c.args.self.now in
     let small : self.number < 2 ^ 64 = search rules in
-    let same : c.is-read-from.result ≡ is_label self.number = search (rules, label_when_read) in
+    let same : c.is_read_from.result ≡ is_label self.number = search (rules, label_when_read) in
     record { value = same; exactly = label_exactly _ self small same }

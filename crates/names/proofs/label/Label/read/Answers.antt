@@ -5,13 +5,13 @@ use Rattle.names.proofs.Bytes.{pack_more, pack_past, pow_step, pow_room}
 use Rattle.names.proofs.label.Label.read.Goals as goal
 use Rattle.names.proofs.label.Label.read.Goals.{then-i-text, else-i-text}
 
-pub overflow-mul-number : goal.overflow-mul-number
-overflow-mul-number c =
+pub overflow_mul-number : goal.overflow_mul-number
+overflow_mul-number c =
     let r : c.bytes.number * 256 + 0 < 2 ^ 64 = pow_room c.bytes.i c.bytes.number 0 c.bytes-test.true c.bytes.invariant.1 (omega arith) in
     record { fits = omega arith }
 
-pub overflow-add-number : goal.overflow-add-number
-overflow-add-number c =
+pub overflow_add-number : goal.overflow_add-number
+overflow_add-number c =
     let b : c.if-i-text.byte < 256 = search rules in
     record { fits = pow_room c.bytes.i c.bytes.number c.if-i-text.byte c.bytes-test.true c.bytes.invariant.1 b }
 

@@ -13,5 +13,5 @@ returns g c =
     let s = state_of g.B.Bank g.G.Bag c.args.self.now.ring in
     let ws = map of_kept (vec_items c.args.self.now.sweeps) in
     let xs = growth_update c.args.stamp c.args.new c.args.label c.args.old in
-    ap (λ a. (a, (state_of g.B.Bank g.G.Bag c.grow.new.self, ws))) c.nothing-got.ensures
+    ap (λ a. (a, (state_of g.B.Bank g.G.Bag c.grow.new.self, ws))) c.nothing_got.ensures
     ∙ ring_step (first_ground (posting_grounds recipes s c.args.copy xs (growth_grounds c.args.copy c.args.new c.args.old s))) s (posted recipes s c.args.copy xs) ws (recorded c.args.copy xs []) _ c.grow.ensures

@@ -18,4 +18,4 @@ returns-in-default g c =
     let us = map of_kept (vec_items c.put.new.sweeps) in
     let j = c.args.number in
     let back : us ≡ set vs j (of_held c.take.result) = c.put.ensures in
-    wrong_step s ws vs us j (of_held c.take.result) c.take.ensures.sweep c.take.ensures.after (abandon_grounds) (λ z. (nothing, (ended, s))) back (not_under_way c.take.result c.in-default.not-Collecting c.in-default.not-Collected c.in-default.not-Spreading)
+    wrong_step s ws vs us j (of_held c.take.result) c.take.ensures.sweep c.take.ensures.after (abandon_grounds) (λ z. (nothing, (ended, s))) back (not_under_way c.take.result c.in_default.not-Collecting c.in_default.not-Collected c.in_default.not-Spreading)

@@ -13,8 +13,8 @@ pub returns-in-Ok : goal.returns-in-Ok
 returns-in-Ok g c =
     let s = state_of g.B.Bank g.G.Bag c.args.self.now.ring in
     let xs = vec_items c.args.self.now.sweeps in
-    let more : map of_kept (vec_items c.push-reserved.new.self) ≡ map of_kept xs ++ of_collecting c.in-Ok.sweep ∷ [] =
-    ap (map of_kept) (c.push-reserved.ensures.items ∙ ap (λ ys. ys ++ c.new.result ∷ []) c.reserve.ensures.items)
+    let more : map of_kept (vec_items c.push_reserved.new.self) ≡ map of_kept xs ++ of_collecting c.in-Ok.sweep ∷ [] =
+    ap (map of_kept) (c.push_reserved.ensures.items ∙ ap (λ ys. ys ++ c.new.result ∷ []) c.reserve.ensures.items)
     ∙ map_push of_kept xs c.new.result
     ∙ ap (λ h. map of_kept xs ++ of_held h ∷ []) c.new.ensures in
     ap (λ ys. (Ok nothing, (state_of g.B.Bank g.G.Bag c.begin.new.self, ys))) more

@@ -18,4 +18,4 @@ returns-in-default g c =
     let us = map of_kept (vec_items c.put.new.sweeps) in
     let j = c.args.number in
     let back : us ≡ set vs j (of_held c.take.result) = c.put.ensures in
-    wrong_step s ws vs us j (of_held c.take.result) c.take.ensures.sweep c.take.ensures.after (close_grounds) (λ z. (stamped (stamp_of z), (ended, s))) back (not_finished c.take.result c.in-default.not-Finished)
+    wrong_step s ws vs us j (of_held c.take.result) c.take.ensures.sweep c.take.ensures.after (close_grounds) (λ z. (stamped (stamp_of z), (ended, s))) back (not_finished c.take.result c.in_default.not-Finished)

@@ -55,4 +55,4 @@ returns-in-default g c =
     let j = c.args.number in
     let found = letter_at s.bag.letters c.args.letter in
     let back : us ≡ set vs j (of_held c.take.result) = c.put-in-default.ensures in
-    wrong_step s ws vs us j (of_held c.take.result) c.take.ensures.sweep c.take.ensures.after (λ z. collect_grounds s z found) (λ z. (how_far (after_collect k s z found).0, after_collect k s z found)) back (not_collecting s found c.take.result c.in-default.not-Collecting)
+    wrong_step s ws vs us j (of_held c.take.result) c.take.ensures.sweep c.take.ensures.after (λ z. collect_grounds s z found) (λ z. (how_far (after_collect k s z found).0, after_collect k s z found)) back (not_collecting s found c.take.result c.in_default.not-Collecting)

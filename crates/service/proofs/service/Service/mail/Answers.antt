@@ -14,5 +14,5 @@ returns g c =
     let k = kind_of g.K.Joinable g.K.Dated in
     let s = state_of g.B.Bank g.G.Bag c.args.self.now.ring in
     let ws = map of_kept (vec_items c.args.self.now.sweeps) in
-    ap (λ a. (a, (state_of g.B.Bank g.G.Bag c.mail.new.self, ws))) c.nothing-got.ensures
+    ap (λ a. (a, (state_of g.B.Bank g.G.Bag c.mail.new.self, ws))) c.nothing_got.ensures
     ∙ ring_step (first_ground (mail_grounds s c.args.from c.args.to c.args.place)) s (letter_sent s (laden k News c.args.from c.args.to 0 0 (store_of s c.args.from) c.args.place)) ws ([]) _ c.mail.ensures

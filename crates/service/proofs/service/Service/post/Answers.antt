@@ -14,5 +14,5 @@ returns g c =
     let s = state_of g.B.Bank g.G.Bag c.args.self.now.ring in
     let ws = map of_kept (vec_items c.args.self.now.sweeps) in
     let xs = (c.args.path, c.args.entry) ∷ [] in
-    ap (λ a. (a, (state_of g.B.Bank g.G.Bag c.post.new.self, ws))) c.nothing-got.ensures
+    ap (λ a. (a, (state_of g.B.Bank g.G.Bag c.post.new.self, ws))) c.nothing_got.ensures
     ∙ ring_step (first_ground (posting_grounds k s c.args.copy xs [])) s (posted k s c.args.copy xs) ws (recorded c.args.copy xs []) _ c.post.ensures

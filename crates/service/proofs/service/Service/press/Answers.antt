@@ -18,7 +18,7 @@ returns-in-Collecting g c =
     let us = map of_kept (vec_items c.put.new.sweeps) in
     let j = c.args.number in
     let back : us ≡ set vs j (of_collecting c.in-Collecting.sweep) = c.put.ensures in
-    ap (λ a. (a, (state_of g.B.Bank g.G.Bag c.press-answer.new.self, us))) c.nothing-got.ensures
+    ap (λ a. (a, (state_of g.B.Bank g.G.Bag c.press-answer.new.self, us))) c.nothing_got.ensures
     ∙ press_step s ws vs us j (of_collecting c.in-Collecting.sweep) c.in-Collecting.ensures.sweep c.take.ensures.after (press_grounds s) (pressed k s) _ back c.press-answer.ensures
 
 pub returns-in-Spreading : goal.returns-in-Spreading
@@ -30,7 +30,7 @@ returns-in-Spreading g c =
     let us = map of_kept (vec_items c.put-in-Spreading.new.sweeps) in
     let j = c.args.number in
     let back : us ≡ set vs j (of_spreading c.in-Spreading.sweep) = c.put-in-Spreading.ensures in
-    ap (λ a. (a, (state_of g.B.Bank g.G.Bag c.press-answer-in-Spreading.new.self, us))) c.nothing-got-in-Spreading.ensures
+    ap (λ a. (a, (state_of g.B.Bank g.G.Bag c.press-answer-in-Spreading.new.self, us))) c.nothing_got-in-Spreading.ensures
     ∙ press_step s ws vs us j (of_spreading c.in-Spreading.sweep) c.in-Spreading.ensures.sweep c.take.ensures.after (press_grounds s) (pressed k s) _ back c.press-answer-in-Spreading.ensures
 
 pub returns-in-default : goal.returns-in-default
@@ -42,4 +42,4 @@ returns-in-default g c =
     let us = map of_kept (vec_items c.put-in-default.new.sweeps) in
     let j = c.args.number in
     let back : us ≡ set vs j (of_held c.take.result) = c.put-in-default.ensures in
-    wrong_step s ws vs us j (of_held c.take.result) c.take.ensures.sweep c.take.ensures.after (press_grounds s) (λ z. (nothing, (z, pressed k s z))) back (not_pressed s c.take.result c.in-default.not-Collecting c.in-default.not-Spreading)
+    wrong_step s ws vs us j (of_held c.take.result) c.take.ensures.sweep c.take.ensures.after (press_grounds s) (λ z. (nothing, (z, pressed k s z))) back (not_pressed s c.take.result c.in_default.not-Collecting c.in_default.not-Spreading)

@@ -40,4 +40,4 @@ returns-in-default g c =
     let us = map of_kept (vec_items c.put-in-default.new.sweeps) in
     let j = c.args.number in
     let back : us ≡ set vs j (of_held c.take.result) = c.put-in-default.ensures in
-    wrong_step s ws vs us j (of_held c.take.result) c.take.ensures.sweep c.take.ensures.after (spread_grounds s) (λ z. (nothing, after_spread s z)) back (not_collected s c.take.result c.in-default.not-Collected)
+    wrong_step s ws vs us j (of_held c.take.result) c.take.ensures.sweep c.take.ensures.after (spread_grounds s) (λ z. (nothing, after_spread s z)) back (not_collected s c.take.result c.in_default.not-Collected)

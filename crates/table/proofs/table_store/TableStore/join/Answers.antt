@@ -5,20 +5,20 @@ use Rattle.table.specs.Tables.{table_meaning}
 use Rattle.table.proofs.Held.{found_low, full_is, free_slot, still_apart, joined_at, pushed_on}
 use Rattle.table.proofs.table_store.TableStore.join.Goals as goal
 
-pub offset-bounds-self-at : goal.offset-bounds-self-at
-offset-bounds-self-at g c = let lt = found_low c.args.self.now _ _ c.in-Some.ensures in search rules
+pub offset_bounds-self-at : goal.offset_bounds-self-at
+offset_bounds-self-at g c = let lt = found_low c.args.self.now _ _ c.in-Some.ensures in search rules
 
 pub bounds-self-at : goal.bounds-self-at
 bounds-self-at g c = found_low c.args.self.now _ _ c.in-Some.ensures
 
-pub offset-bounds-self-at-in-Some : goal.offset-bounds-self-at-in-Some
-offset-bounds-self-at-in-Some g c = let lt = found_low c.args.self.now _ _ c.in-Some.ensures in search rules
+pub offset_bounds-self-at-in-Some : goal.offset_bounds-self-at-in-Some
+offset_bounds-self-at-in-Some g c = let lt = found_low c.args.self.now _ _ c.in-Some.ensures in search rules
 
 pub bounds-self-at-in-Some : goal.bounds-self-at-in-Some
 bounds-self-at-in-Some g c = found_low c.args.self.now _ _ c.in-Some.ensures
 
-pub invariant-of-self : goal.invariant-of-self
-invariant-of-self g c =
+pub invariant_of-self : goal.invariant_of-self
+invariant_of-self g c =
     let t = c.args.self.now in
     let after = joined_at t g.K.Joinable.joined c.args.path c.args.entry c.in-Some.at c.index-self-at.result c.joined.result c.in-Some.ensures c.joined.ensures.path c.joined.ensures.entry in
     (simp length-set t.fits, (still_apart t _ _ _ _ _ after, tt))
@@ -31,22 +31,22 @@ returns-in-Some g c =
       after = joined_at t _ c.args.path c.args.entry c.in-Some.at c.index-self-at.result c.joined.result c.in-Some.ensures c.joined.ensures.path c.joined.ensures.entry;
     }
 
-pub returns-then-is-full : goal.returns-then-is-full
-returns-then-is-full g c =
-    let full = full_is c.args.self.now c.args.path c.in-None.ensures ∙ sym c.if-is-full.ensures in
+pub returns-then-is_full : goal.returns-then-is_full
+returns-then-is_full g c =
+    let full = full_is c.args.self.now c.args.path c.in-None.ensures ∙ sym c.if-is_full.ensures in
     record { answer = sym (cond-true _ _ _ full); after = sym (join_refused _ _ _ _ full) }
 
 pub push-requires : goal.push-requires
 push-requires g c =
     let t = c.args.self.now in
     record {
-      free = free_slot t c.if-is-full.ensures;
-      apart = still_apart t g.K.Joinable.joined c.args.path c.args.entry _ _ (pushed_on t _ _ _ c.if-is-full.ensures c.in-None.ensures);
+      free = free_slot t c.if-is_full.ensures;
+      apart = still_apart t g.K.Joinable.joined c.args.path c.args.entry _ _ (pushed_on t _ _ _ c.if-is_full.ensures c.in-None.ensures);
     }
 
-pub returns-else-is-full : goal.returns-else-is-full
-returns-else-is-full g c =
+pub returns-else-is_full : goal.returns-else-is_full
+returns-else-is_full g c =
     let t = c.args.self.now in
-    let room = full_is t c.args.path c.in-None.ensures ∙ sym c.if-is-full.ensures in
-    let after = pushed_on t g.K.Joinable.joined c.args.path c.args.entry c.if-is-full.ensures c.in-None.ensures in
+    let room = full_is t c.args.path c.in-None.ensures ∙ sym c.if-is_full.ensures in
+    let after = pushed_on t g.K.Joinable.joined c.args.path c.args.entry c.if-is_full.ensures c.in-None.ensures in
     record { answer = sym (cond-false _ _ _ room); after = cc }

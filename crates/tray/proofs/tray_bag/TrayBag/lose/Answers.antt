@@ -12,23 +12,23 @@ returns-then-number-used g c =
     let same = sym (without_past (take t.used t.slots.now) c.args.number past) in
     record { answer = sym (cond-false _ _ _ (le-ltb _ _ past)); after = ap (λ ls. record { letters = ls; places = length t.slots.now }) same }
 
-pub close-gap-requires : goal.close-gap-requires
-close-gap-requires g c =
+pub close_gap-requires : goal.close_gap-requires
+close_gap-requires g c =
     let t = c.args.self.now in
     let same : length c.replace-slots.result.now ≡ length t.slots.now = ap (λ r. length r.now) c.replace-slots.ensures.value in
     (c.if-number-used.false, omega (arith, t.fits))
 
-pub invariant-of-self : goal.invariant-of-self
-invariant-of-self g c =
+pub invariant_of-self : goal.invariant_of-self
+invariant_of-self g c =
     let t = c.args.self.now in
     let same : length c.replace-slots.result.now ≡ length t.slots.now = ap (λ r. length r.now) c.replace-slots.ensures.value in
-    (omega (arith, t.fits, c.close-gap.auto.slots), tt)
+    (omega (arith, t.fits, c.close_gap.auto.slots), tt)
 
 pub returns : goal.returns
 returns g c =
     let t = c.args.self.now in
     let same : c.replace-slots.result.now ≡ t.slots.now = ap (λ x. x.now) c.replace-slots.ensures.value in
     let lt : c.args.number < length (take t.used t.slots.now) = omega (arith, length-take-le t.used t.slots.now t.fits, c.if-number-used.false) in
-    let letters : take (t.used - 1) c.close-gap.new.slots ≡ without (take t.used t.slots.now) c.args.number = c.close-gap.ensures ∙ ap (λ xs. without (take t.used xs) c.args.number) same in
-    let long : length c.close-gap.new.slots ≡ length t.slots.now = c.close-gap.auto.slots ∙ ap length same in
+    let letters : take (t.used - 1) c.close_gap.new.slots ≡ without (take t.used t.slots.now) c.args.number = c.close_gap.ensures ∙ ap (λ xs. without (take t.used xs) c.args.number) same in
+    let long : length c.close_gap.new.slots ≡ length t.slots.now = c.close_gap.auto.slots ∙ ap length same in
     record { answer = sym (cond-true _ _ _ (lt-ltb _ _ lt)); after = cc }
