@@ -2,6 +2,7 @@ ghost use Rattle.std.specs.Prelude.{◌≡◌, Some, refl};
 ghost use Rattle.std.specs.Fmt.{WritesOnOk};
 ghost use Rattle.names.specs.declared.path.Path.{Path as Whole};
 ghost use Rattle.names.specs.Paths.{sound_path, same_path, order_of, parent_of, Above, shown_after, shown_path};
+ghost use Rattle.names.specs.Orders.{order_total};
 ghost use Rattle.std.specs.Ordering.{nat_cmp};
 ghost use Rattle.std.specs.Cmp.Rules.{comparing};
 ghost use Rattle.std.proofs.Common.{rules};
@@ -116,7 +117,7 @@ impl Eq for Path {
 impl PartialOrd for Path {
     ghost partial_cmp = { λ p q. Some (order_of p q) };
 
-    ghost laws = { partial_order_from_agreeing_total (λ p q. order_of p q) (Prim.search (comparing, rules)) (λ _ _. refl) (Prim.search (comparing, rules)) };
+    ghost laws = { partial_order_from_agreeing_total (λ p q. order_of p q) order_total (λ _ _. refl) (Prim.search (comparing, rules)) };
 
     fn partial_cmp(&self, other: &Path) -> Option<Ordering> {
         Some(order(self, other))
@@ -126,7 +127,7 @@ impl PartialOrd for Path {
 impl Ord for Path {
     ghost cmp = { λ p q. order_of p q };
 
-    ghost total = { Prim.search (comparing, rules) };
+    ghost total = { order_total };
 
     ghost matches_partial_cmp = { Prim.search (comparing, rules) };
 

@@ -13,7 +13,7 @@ returns-clause-writes g c plain ok =
     let b = c.write.new.self in
     let d = c.show_after.new.f in
     let e = c.show_after-2.new.f in
-    let first : HasWritten took a (shown_start p) b = c.in_ok-write.ensures.shows plain (refl {a = true}) in
+    let first : HasWritten took a (shown_start p) b = c.in_ok-write.ensures.writes plain (refl {a = true}) in
     let second : HasWritten took b (shown_after p.second) d = c.in_ok-show_after.ensures first.plain (refl {a = true}) in
     let third : HasWritten took d (shown_after p.third) e = c.show_after-2.ensures second.plain ok in
     has_written_append took a _ d _ e (has_written_append took a _ b _ d first second) third
