@@ -28,8 +28,8 @@ returns-in-None g c =
     record { walks = onward_last _ _ _ _ c.links.steps _ _ _ _ _ end c.links.invariant; few = omega (arith, c.links.invariant.few) }
 
 -- a directory, under the last label and before others
-pub returns-in-default : goal.returns-in-default
-returns-in-default g c =
+pub returns-in_default : goal.returns-in_default
+returns-in_default g c =
     let short : length c.labels.rest.now < 1 = search rules in
     let end = enters_last (entry_of (g.S.Readable.meaning c.args.store.now)) c.labels.rest.now _ _ _ _ short c.in-Enter.ensures in
     record { walks = onward_last _ _ _ _ c.links.steps _ _ _ _ _ end c.links.invariant; few = omega (arith, c.links.invariant.few) }

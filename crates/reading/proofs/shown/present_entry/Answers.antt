@@ -12,7 +12,7 @@ returns-in-Absent g c =
     let e = found _ (g.S.Readable.meaning c.args.store.now) c.args.path.now _ _ c.in-Some.ensures c.entry_at-found.ensures in
     sym (ap unless_absent e ∙ absent_none c.entry_at-found.result c.in-Absent.is)
 
-pub returns-in-default : goal.returns-in-default
-returns-in-default g c =
+pub returns-in_default : goal.returns-in_default
+returns-in_default g c =
     let e = found _ (g.S.Readable.meaning c.args.store.now) c.args.path.now _ _ c.in-Some.ensures c.entry_at-found.ensures in
     sym (ap unless_absent e ∙ present_some c.entry_at-found.result c.in_default.not-Absent)

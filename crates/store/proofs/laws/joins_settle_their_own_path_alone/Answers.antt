@@ -6,7 +6,7 @@ returns g c =
     let join = g.K.Joinable.joined in
     let laws = g.met.K.Joinable in
     record {
-      refused-when-full = refused_exactly_when_full join;
+      refused_when_full = refused_exactly_when_full join;
       refused_changes_nothing = refused_changes_nothing join;
       found_at_its_place = found_at_its_place join;
       holds_old_join_new = holds_old_join_new join;

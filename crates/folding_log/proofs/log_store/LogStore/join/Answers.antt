@@ -9,8 +9,8 @@ use Rattle.folding_log.proofs.Folds.{push_arrivals, push_placed, push_pairs}
 use Rattle.folding_log.proofs.Steps.{log_seated, log_unseated}
 use Rattle.folding_log.proofs.log_store.LogStore.join.Goals as goal
 
-pub returns-in-default : goal.returns-in-default
-returns-in-default g c =
+pub returns-in_default : goal.returns-in_default
+returns-in_default g c =
     let full = log_unseated g.K.Joinable.joined c.args.self.now c.args.path c.find-found.result c.find-found.ensures c.in_default.ensures in
     record { answer = sym (cond-true _ _ _ full); after = sym (join_refused _ _ _ _ full) }
 

@@ -4,8 +4,8 @@ use Rattle.names.specs.Labels.{read_label}
 use Rattle.lines.proofs.Slashes.{bad_label, label_past, last_label, more_labels}
 use Rattle.lines.proofs.name.labels.joined_labels.Goals as goal
 
-pub returns-in-default : goal.returns-in-default
-returns-in-default c =
+pub returns-in_default : goal.returns-in_default
+returns-in_default c =
     let n = c.before-slash.result in
     let k : n - 0 ≡ n = omega arith in
     bad_label c.args.limit c.args.text.now c.parts.rest.now _ c.parts.invariant.0 n c.before-slash.ensures.value c.before-slash.ensures.inside (c.in_default.ensures.value ∙ ap (λ m. read_label (take m c.parts.rest.now)) k)

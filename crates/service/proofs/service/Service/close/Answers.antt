@@ -9,8 +9,8 @@ use Rattle.service.specs.Calls.{of_kept, of_held}
 use Rattle.service.proofs.Steps.{wrong_step, not_finished}
 use Rattle.service.proofs.service.Service.close.Goals as goal
 
-pub returns-in-default : goal.returns-in-default
-returns-in-default g c =
+pub returns-in_default : goal.returns-in_default
+returns-in_default g c =
     let k = kind_of g.K.Joinable g.K.Dated in
     let s = state_of g.B.Bank g.G.Bag c.args.self.now.ring in
     let ws = map of_kept (vec_items c.args.self.now.sweeps) in

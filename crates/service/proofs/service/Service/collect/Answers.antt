@@ -45,14 +45,14 @@ returns-in-Err g c =
     let back : us ≡ set vs j (of_collecting c.in-Err.refused.sweep) = c.put-in-Err.ensures in
     sweep_step s ws vs us j (of_collecting c.in-Collecting.sweep) c.in-Collecting.ensures.sweep c.take.ensures.after (λ z. collect_grounds s z found) (λ z. after_collect k s z found) (how_far) ((Some (ground_number c.in-Err.refused.ground), (of_collecting c.in-Err.refused.sweep, state_of g.B.Bank g.G.Bag c.collect.new.self))) back c.in-Err.ensures
 
-pub returns-in-default : goal.returns-in-default
-returns-in-default g c =
+pub returns-in_default : goal.returns-in_default
+returns-in_default g c =
     let k = kind_of g.K.Joinable g.K.Dated in
     let s = state_of g.B.Bank g.G.Bag c.args.self.now.ring in
     let ws = map of_kept (vec_items c.args.self.now.sweeps) in
     let vs = map of_kept (vec_items c.take.new.sweeps) in
-    let us = map of_kept (vec_items c.put-in-default.new.sweeps) in
+    let us = map of_kept (vec_items c.put-in_default.new.sweeps) in
     let j = c.args.number in
     let found = letter_at s.bag.letters c.args.letter in
-    let back : us ≡ set vs j (of_held c.take.result) = c.put-in-default.ensures in
+    let back : us ≡ set vs j (of_held c.take.result) = c.put-in_default.ensures in
     wrong_step s ws vs us j (of_held c.take.result) c.take.ensures.sweep c.take.ensures.after (λ z. collect_grounds s z found) (λ z. (how_far (after_collect k s z found).0, after_collect k s z found)) back (not_collecting s found c.take.result c.in_default.not-Collecting)

@@ -33,13 +33,13 @@ returns-in-Spreading g c =
     ap (λ a. (a, (state_of g.B.Bank g.G.Bag c.press-answer-in-Spreading.new.self, us))) c.nothing_got-in-Spreading.ensures
     ∙ press_step s ws vs us j (of_spreading c.in-Spreading.sweep) c.in-Spreading.ensures.sweep c.take.ensures.after (press_grounds s) (pressed k s) _ back c.press-answer-in-Spreading.ensures
 
-pub returns-in-default : goal.returns-in-default
-returns-in-default g c =
+pub returns-in_default : goal.returns-in_default
+returns-in_default g c =
     let k = kind_of g.K.Joinable g.K.Dated in
     let s = state_of g.B.Bank g.G.Bag c.args.self.now.ring in
     let ws = map of_kept (vec_items c.args.self.now.sweeps) in
     let vs = map of_kept (vec_items c.take.new.sweeps) in
-    let us = map of_kept (vec_items c.put-in-default.new.sweeps) in
+    let us = map of_kept (vec_items c.put-in_default.new.sweeps) in
     let j = c.args.number in
-    let back : us ≡ set vs j (of_held c.take.result) = c.put-in-default.ensures in
+    let back : us ≡ set vs j (of_held c.take.result) = c.put-in_default.ensures in
     wrong_step s ws vs us j (of_held c.take.result) c.take.ensures.sweep c.take.ensures.after (press_grounds s) (λ z. (nothing, (z, pressed k s z))) back (not_pressed s c.take.result c.in_default.not-Collecting c.in_default.not-Spreading)

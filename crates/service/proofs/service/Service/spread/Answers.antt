@@ -31,13 +31,13 @@ returns-in-Err g c =
     let back : us ≡ set vs j (of_collected c.in-Err.refused.sweep) = c.put-in-Err.ensures in
     sweep_step s ws vs us j (of_collected c.in-Collected.sweep) c.in-Collected.ensures.sweep c.take.ensures.after (spread_grounds s) (after_spread s) (λ _. nothing) ((Some (ground_number c.in-Err.refused.ground), (of_collected c.in-Err.refused.sweep, state_of g.B.Bank g.G.Bag c.spread.new.self))) back c.in-Err.ensures
 
-pub returns-in-default : goal.returns-in-default
-returns-in-default g c =
+pub returns-in_default : goal.returns-in_default
+returns-in_default g c =
     let k = kind_of g.K.Joinable g.K.Dated in
     let s = state_of g.B.Bank g.G.Bag c.args.self.now.ring in
     let ws = map of_kept (vec_items c.args.self.now.sweeps) in
     let vs = map of_kept (vec_items c.take.new.sweeps) in
-    let us = map of_kept (vec_items c.put-in-default.new.sweeps) in
+    let us = map of_kept (vec_items c.put-in_default.new.sweeps) in
     let j = c.args.number in
-    let back : us ≡ set vs j (of_held c.take.result) = c.put-in-default.ensures in
+    let back : us ≡ set vs j (of_held c.take.result) = c.put-in_default.ensures in
     wrong_step s ws vs us j (of_held c.take.result) c.take.ensures.sweep c.take.ensures.after (spread_grounds s) (λ z. (nothing, after_spread s z)) back (not_collected s c.take.result c.in_default.not-Collected)

@@ -22,7 +22,7 @@ pub invariant_of-self : goal.invariant_of-self
 invariant_of-self g c =
     let t = c.args.self.now in
     let same : length c.replace-slots.result.now ≡ length t.slots.now = ap (λ r. length r.now) c.replace-slots.ensures.value in
-    (omega (arith, t.fits, c.close_gap.auto.slots), tt)
+    record { fits = omega (arith, t.fits, c.close_gap.auto.slots) }
 
 pub returns : goal.returns
 returns g c =
