@@ -11,10 +11,10 @@ use entries::Dated;
 // For every kind of entry, every ring and every list of calls: two copies miss nothing of what is stamped below
 // the lower of their sweep stamps, and hold its join alike.
 pub fn copies_agree_below_their_sweep_stamps<K: Dated>()
-    ensures agreement { Agreement (kind_of K.Joinable K.Dated) }
-    ensures any_order { AnyOrder (kind_of K.Joinable K.Dated) }
-    ensures finished_everywhere { FinishedEverywhere (kind_of K.Joinable K.Dated) }
-    ensures stores_sound { StoresSound (kind_of K.Joinable K.Dated) }
+    ensures agreement { Agreement (kind_of K.Joinable K.Dated.own) }
+    ensures any_order { AnyOrder (kind_of K.Joinable K.Dated.own) }
+    ensures finished_everywhere { FinishedEverywhere (kind_of K.Joinable K.Dated.own) }
+    ensures stores_sound { StoresSound (kind_of K.Joinable K.Dated.own) }
 {}
 
 // One such list of calls, with a lost letter and letters handed twice: the sweep is finished, and all three copies

@@ -9,5 +9,5 @@ use entries::Dated;
 
 // A call that is refused leaves ring, sweeps and bag as they were, for every kind of entry.
 pub fn refused_calls_change_nothing<K: Dated>()
-    ensures { RefusedChangesNothing (kind_of K.Joinable K.Dated) }
+    ensures { RefusedChangesNothing (kind_of K.Joinable K.Dated.own) }
 {}

@@ -54,7 +54,7 @@ impl<K: Dated, B: Bank<K>, G: Bag<Letter<K>>> Ring<K, B, G> {
         sweep: Collecting,
         letter: usize,
     ) -> Result<WhenCollected, Refused<Collecting>>
-        ensures { collected_by result (state_of B.Bank G.Bag self.new) ≡ collect (kind_of K.Joinable K.Dated) (state_of B.Bank G.Bag self.old) (of_collecting sweep) letter }
+        ensures { collected_by result (state_of B.Bank G.Bag self.new) ≡ collect (kind_of K.Joinable K.Dated.own) (state_of B.Bank G.Bag self.old) (of_collecting sweep) letter }
     {
         if sweep.home >= self.copies || sweep.in_hand >= self.copies {
             return Err(Refused {

@@ -15,7 +15,7 @@ use store::Bank;
 impl<K: Dated, B: Bank<K>, G: Bag<Letter<K>>> Ring<K, B, G> {
     // What the addressee does with a letter, and its reply.
     fn deliver(&mut self, letter: Letter<K>) -> Result<(), Ground>
-        ensures { (by_number result, state_of B.Bank G.Bag self.new) ≡ settled (tag_grounds (state_of B.Bank G.Bag self.old) letter letter.tag) (state_of B.Bank G.Bag self.old) (tt, handed (kind_of K.Joinable K.Dated) (state_of B.Bank G.Bag self.old) letter letter.tag) }
+        ensures { (by_number result, state_of B.Bank G.Bag self.new) ≡ settled (tag_grounds (state_of B.Bank G.Bag self.old) letter letter.tag) (state_of B.Bank G.Bag self.old) (tt, handed (kind_of K.Joinable K.Dated.own) (state_of B.Bank G.Bag self.old) letter letter.tag) }
     {
         let (from, to, stamp, place) = (
             letter.sender,
@@ -79,7 +79,7 @@ impl<K: Dated, B: Bank<K>, G: Bag<Letter<K>>> Ring<K, B, G> {
 
     // Gives a letter to its addressee and leaves it in the bag.
     pub fn hand(&mut self, letter: usize) -> Result<(), Ground>
-        ensures { (by_number result, state_of B.Bank G.Bag self.new) ≡ hand (kind_of K.Joinable K.Dated) (state_of B.Bank G.Bag self.old) letter }
+        ensures { (by_number result, state_of B.Bank G.Bag self.new) ≡ hand (kind_of K.Joinable K.Dated.own) (state_of B.Bank G.Bag self.old) letter }
     {
         match self.bag.read(letter) {
             Some(letter) => self.deliver(letter),

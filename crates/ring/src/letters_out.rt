@@ -19,7 +19,7 @@ pub(crate) fn plain<K: Dated>(
     place: usize,
     count: usize,
 ) -> Letter<K>
-    ensures { result ≡ plain (kind_of K.Joinable K.Dated) tag sender addressee stamp place count }
+    ensures { result ≡ plain (kind_of K.Joinable K.Dated.own) tag sender addressee stamp place count }
 {
     Letter {
         tag,
@@ -44,7 +44,7 @@ impl<K: Dated, B: Bank<K>, G: Bag<Letter<K>>> Ring<K, B, G> {
         place: usize,
         at: usize,
     ) -> Letter<K>
-        ensures { result ≡ laden (kind_of K.Joinable K.Dated) tag sender addressee stamp place (store_of (state_of B.Bank G.Bag self.now) sender) at }
+        ensures { result ≡ laden (kind_of K.Joinable K.Dated.own) tag sender addressee stamp place (store_of (state_of B.Bank G.Bag self.now) sender) at }
     {
         Letter {
             tag,

@@ -21,7 +21,7 @@ impl<K: Dated, B: Bank<K>, G: Bag<Letter<K>>> Ring<K, B, G> {
 
     // Sends what lies at a place of one copy to another, as news.
     pub fn mail(&mut self, from: usize, to: usize, place: usize) -> Result<(), Ground>
-        ensures { (by_number result, state_of B.Bank G.Bag self.new) ≡ mail (kind_of K.Joinable K.Dated) (state_of B.Bank G.Bag self.old) from to place }
+        ensures { (by_number result, state_of B.Bank G.Bag self.new) ≡ mail (kind_of K.Joinable K.Dated.own) (state_of B.Bank G.Bag self.old) from to place }
     {
         if from >= self.copies || to >= self.copies {
             return Err(Ground::NoSuchCopy);

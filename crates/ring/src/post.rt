@@ -27,7 +27,7 @@ impl<K: Dated, B: Bank<K>, G: Bag<Letter<K>>> Ring<K, B, G> {
 
     // The first of the grounds that every posting has, but for a full store.
     pub(crate) fn update_ground(&self, copy: usize, path: &Path, entry: &K) -> Option<Ground>
-        ensures { option_map ground_number result ≡ first_ground (update_grounds (kind_of K.Joinable K.Dated) (state_of B.Bank G.Bag self.now) copy ((path.now, entry.now) ∷ [])) }
+        ensures { option_map ground_number result ≡ first_ground (update_grounds (kind_of K.Joinable K.Dated.own) (state_of B.Bank G.Bag self.now) copy ((path.now, entry.now) ∷ [])) }
     {
         if copy >= self.copies {
             Some(Ground::NoSuchCopy)
@@ -44,7 +44,7 @@ impl<K: Dated, B: Bank<K>, G: Bag<Letter<K>>> Ring<K, B, G> {
 
     // Joins the entry at the copy: a local write, which is an accepted update of the ring.
     pub fn post(&mut self, copy: usize, path: Path, entry: K) -> Result<(), Ground>
-        ensures { (by_number result, state_of B.Bank G.Bag self.new) ≡ post (kind_of K.Joinable K.Dated) (state_of B.Bank G.Bag self.old) copy path entry }
+        ensures { (by_number result, state_of B.Bank G.Bag self.new) ≡ post (kind_of K.Joinable K.Dated.own) (state_of B.Bank G.Bag self.old) copy path entry }
     {
         if let Some(ground) = self.update_ground(copy, &path, &entry) {
             return Err(ground);

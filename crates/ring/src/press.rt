@@ -51,7 +51,7 @@ impl Pressable for Spreading {
 impl<K: Dated, B: Bank<K>, G: Bag<Letter<K>>> Ring<K, B, G> {
     // Sends, from home to the copy in hand, what the sweep wants next: raise, fetch, put or swept.
     pub fn press<W: Pressable>(&mut self, sweep: &W) -> Result<(), Ground>
-        ensures { (by_number result, state_of B.Bank G.Bag self.new) ≡ press (kind_of K.Joinable K.Dated) (state_of B.Bank G.Bag self.old) (W.Pressable.sweep sweep.now) }
+        ensures { (by_number result, state_of B.Bank G.Bag self.new) ≡ press (kind_of K.Joinable K.Dated.own) (state_of B.Bank G.Bag self.old) (W.Pressable.sweep sweep.now) }
     {
         match sweep.numbers() {
             Pressed::Asking(stamp, home, in_hand, count, place) => self.ask(
@@ -72,7 +72,7 @@ impl<K: Dated, B: Bank<K>, G: Bag<Letter<K>>> Ring<K, B, G> {
         count: Option<usize>,
         place: usize,
     ) -> Result<(), Ground>
-        ensures { (by_number result, state_of B.Bank G.Bag self.new) ≡ press (kind_of K.Joinable K.Dated) (state_of B.Bank G.Bag self.old) (of_pressed (Pressed.Asking stamp home in_hand count place)) }
+        ensures { (by_number result, state_of B.Bank G.Bag self.new) ≡ press (kind_of K.Joinable K.Dated.own) (state_of B.Bank G.Bag self.old) (of_pressed (Pressed.Asking stamp home in_hand count place)) }
     {
         if home >= self.copies || in_hand >= self.copies {
             return Err(Ground::NoSuchCopy);
@@ -97,7 +97,7 @@ impl<K: Dated, B: Bank<K>, G: Bag<Letter<K>>> Ring<K, B, G> {
         count: usize,
         place: usize,
     ) -> Result<(), Ground>
-        ensures { (by_number result, state_of B.Bank G.Bag self.new) ≡ press (kind_of K.Joinable K.Dated) (state_of B.Bank G.Bag self.old) (of_pressed (Pressed.Telling stamp home in_hand count place)) }
+        ensures { (by_number result, state_of B.Bank G.Bag self.new) ≡ press (kind_of K.Joinable K.Dated.own) (state_of B.Bank G.Bag self.old) (of_pressed (Pressed.Telling stamp home in_hand count place)) }
     {
         if home >= self.copies || in_hand >= self.copies {
             return Err(Ground::NoSuchCopy);

@@ -27,7 +27,7 @@ pub(crate) fn nothing_got(answer: Result<(), Ground>) -> Result<Got, Ground>
 // The calls on sweeps. A sweep that is not in the state needed is put back as it was, and the ground is 2.
 impl<K: Dated, B: Bank<K>, G: Bag<Letter<K>>> Service<K, B, G> {
     pub(crate) fn begin(&mut self, copy: usize, time: u32) -> Result<Got, Trouble>
-        ensures { Performs (kind_of K.Joinable K.Dated) (of_call (Call.Begin copy time)) (serving B.Bank G.Bag self.old) result (serving B.Bank G.Bag self.new) }
+        ensures { Performs (kind_of K.Joinable K.Dated.own) (of_call (Call.Begin copy time)) (serving B.Bank G.Bag self.old) result (serving B.Bank G.Bag self.new) }
     {
         if self.sweeps.reserve(1).is_err() {
             return Err(Trouble::NoMemory);
@@ -43,7 +43,7 @@ impl<K: Dated, B: Bank<K>, G: Bag<Letter<K>>> Service<K, B, G> {
     }
 
     pub(crate) fn press(&mut self, number: usize) -> Result<Got, Ground>
-        ensures { (by_got result, serving B.Bank G.Bag self.new) ≡ seen (step (kind_of K.Joinable K.Dated) (of_call (Call.Press number)) (world_of (serving B.Bank G.Bag self.old))) }
+        ensures { (by_got result, serving B.Bank G.Bag self.new) ≡ seen (step (kind_of K.Joinable K.Dated.own) (of_call (Call.Press number)) (world_of (serving B.Bank G.Bag self.old))) }
     {
         match take(&mut self.sweeps, number) {
             Held::Collecting(sweep) => {
@@ -64,7 +64,7 @@ impl<K: Dated, B: Bank<K>, G: Bag<Letter<K>>> Service<K, B, G> {
     }
 
     pub(crate) fn collect(&mut self, number: usize, letter: usize) -> Result<Got, Ground>
-        ensures { (by_got result, serving B.Bank G.Bag self.new) ≡ seen (step (kind_of K.Joinable K.Dated) (of_call (Call.Collect number letter)) (world_of (serving B.Bank G.Bag self.old))) }
+        ensures { (by_got result, serving B.Bank G.Bag self.new) ≡ seen (step (kind_of K.Joinable K.Dated.own) (of_call (Call.Collect number letter)) (world_of (serving B.Bank G.Bag self.old))) }
     {
         match take(&mut self.sweeps, number) {
             Held::Collecting(sweep) => match self.ring.collect(sweep, letter) {
@@ -92,7 +92,7 @@ impl<K: Dated, B: Bank<K>, G: Bag<Letter<K>>> Service<K, B, G> {
     }
 
     pub(crate) fn spread(&mut self, number: usize) -> Result<Got, Ground>
-        ensures { (by_got result, serving B.Bank G.Bag self.new) ≡ seen (step (kind_of K.Joinable K.Dated) (of_call (Call.Spread number)) (world_of (serving B.Bank G.Bag self.old))) }
+        ensures { (by_got result, serving B.Bank G.Bag self.new) ≡ seen (step (kind_of K.Joinable K.Dated.own) (of_call (Call.Spread number)) (world_of (serving B.Bank G.Bag self.old))) }
     {
         match take(&mut self.sweeps, number) {
             Held::Collected(sweep) => match self.ring.spread(sweep) {
@@ -114,7 +114,7 @@ impl<K: Dated, B: Bank<K>, G: Bag<Letter<K>>> Service<K, B, G> {
     }
 
     pub(crate) fn confirm(&mut self, number: usize, letter: usize) -> Result<Got, Ground>
-        ensures { (by_got result, serving B.Bank G.Bag self.new) ≡ seen (step (kind_of K.Joinable K.Dated) (of_call (Call.Confirm number letter)) (world_of (serving B.Bank G.Bag self.old))) }
+        ensures { (by_got result, serving B.Bank G.Bag self.new) ≡ seen (step (kind_of K.Joinable K.Dated.own) (of_call (Call.Confirm number letter)) (world_of (serving B.Bank G.Bag self.old))) }
     {
         match take(&mut self.sweeps, number) {
             Held::Spreading(sweep) => match self.ring.confirm(sweep, letter) {
@@ -142,7 +142,7 @@ impl<K: Dated, B: Bank<K>, G: Bag<Letter<K>>> Service<K, B, G> {
     }
 
     pub(crate) fn close(&mut self, number: usize) -> Result<Got, Ground>
-        ensures { (by_got result, serving B.Bank G.Bag self.new) ≡ seen (step (kind_of K.Joinable K.Dated) (of_call (Call.Close number)) (world_of (serving B.Bank G.Bag self.old))) }
+        ensures { (by_got result, serving B.Bank G.Bag self.new) ≡ seen (step (kind_of K.Joinable K.Dated.own) (of_call (Call.Close number)) (world_of (serving B.Bank G.Bag self.old))) }
     {
         match take(&mut self.sweeps, number) {
             Held::Finished(sweep) => Ok(Got::Stamp(sweep.close())),
@@ -154,7 +154,7 @@ impl<K: Dated, B: Bank<K>, G: Bag<Letter<K>>> Service<K, B, G> {
     }
 
     pub(crate) fn abandon(&mut self, number: usize) -> Result<Got, Ground>
-        ensures { (by_got result, serving B.Bank G.Bag self.new) ≡ seen (step (kind_of K.Joinable K.Dated) (of_call (Call.Abandon number)) (world_of (serving B.Bank G.Bag self.old))) }
+        ensures { (by_got result, serving B.Bank G.Bag self.new) ≡ seen (step (kind_of K.Joinable K.Dated.own) (of_call (Call.Abandon number)) (world_of (serving B.Bank G.Bag self.old))) }
     {
         match take(&mut self.sweeps, number) {
             Held::Collecting(sweep) => {

@@ -22,7 +22,7 @@ pub(crate) fn settled(answer: Result<Got, Ground>) -> Result<Got, Trouble>
 impl<K: Dated, B: Bank<K>, G: Bag<Letter<K>>> Service<K, B, G> {
     // Does one call: exactly its step on the plain machine, or nothing where there was no memory for another sweep.
     pub fn perform(&mut self, call: Call<K>) -> Result<Got, Trouble>
-        ensures { Performs (kind_of K.Joinable K.Dated) (of_call call) (serving B.Bank G.Bag self.old) result (serving B.Bank G.Bag self.new) }
+        ensures { Performs (kind_of K.Joinable K.Dated.own) (of_call call) (serving B.Bank G.Bag self.old) result (serving B.Bank G.Bag self.new) }
     {
         match call {
             Call::Post(copy, path, entry) => settled(self.post(copy, path, entry)),

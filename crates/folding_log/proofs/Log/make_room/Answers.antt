@@ -11,16 +11,13 @@ invariant_of-self g c =
     let ss = c.fold-folded.new.slots in
     let same : c.replace-slots.result.now ≡ t.slots.now = ap (λ x. x.now) c.replace-slots.ensures.value in
     let long : length ss ≡ length t.slots.now = c.fold-folded.auto.slots ∙ ap length same in
-    let pairs : map pair_of (take r ss) ≡ log_pairs j t.used t.slots.now = c.fold-folded.ensures.pairs ∙ ap (log_pairs j t.used) same in (
-      omega (arith, t.fits, c.fold-folded.ensures.fewer),
-      (
-        subst (λ n. t.held ≤ n / 2) (sym long) t.half,
-        (
-          t.counted ∙ sym (ap length (folded_arrivals j t.used t.slots.now r ss pairs)),
-          (ap (λ qs. placed qs (take r ss)) (folded_paths j t.used t.slots.now r ss pairs) ∙ c.fold-folded.ensures.numbered, tt),
-        ),
-      ),
-    )
+    let pairs : map pair_of (take r ss) ≡ log_pairs j t.used t.slots.now = c.fold-folded.ensures.pairs ∙ ap (log_pairs j t.used) same in
+    record {
+      fits = omega (arith, t.fits, c.fold-folded.ensures.fewer);
+      half = subst (λ n. t.held ≤ n / 2) (sym long) t.half;
+      counted = t.counted ∙ sym (ap length (folded_arrivals j t.used t.slots.now r ss pairs));
+      numbered = ap (λ qs. placed qs (take r ss)) (folded_paths j t.used t.slots.now r ss pairs) ∙ c.fold-folded.ensures.numbered;
+    }
 
 pub returns : goal.returns
 returns g c =

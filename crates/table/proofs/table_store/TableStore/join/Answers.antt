@@ -21,7 +21,7 @@ pub invariant_of-self : goal.invariant_of-self
 invariant_of-self g c =
     let t = c.args.self.now in
     let after = joined_at t g.K.Joinable.joined c.args.path c.args.entry c.in-Some.at c.index-self-at.result c.joined.result c.in-Some.ensures c.joined.ensures.path c.joined.ensures.entry in
-    (simp length-set t.fits, (still_apart t _ _ _ _ _ after, tt))
+    record { fits = simp length-set t.fits; apart = still_apart t _ _ _ _ _ after }
 
 pub returns-in-Some : goal.returns-in-Some
 returns-in-Some g c =
