@@ -1,27 +1,16 @@
 -- Paths are in a total order, and no two paths have the same rank in it. Assumes nothing.
 use Rattle.std.proofs.Common.{◌≡◌, ℕ, ◌<◌, Ordering, Less, Equal, Greater, refl, subst, arith}
-use Rattle.std.specs.Cmp.{IsTotalOrder, ranks, nat_cmp_total, pairs, then_total, on_total}
+use Rattle.std.specs.Cmp.{IsTotalOrder, ranks, on_total}
 use Rattle.std.specs.Ordering.{ordering_then, MatchOrdering, nat_cmp}
 use Rattle.names.specs.declared.path.Path.{Path}
 use Rattle.names.specs.Labels.{label}
 use Rattle.names.specs.Paths.{order_of}
+use Rattle.names.specs.Orders.{order_total}
 use Rattle.listing.specs.declared.listed.Listed.{Listed}
 
--- the numbers of a path, in the order in which they are compared
-abbrev numbers : Path → ℕ × (ℕ × (ℕ × ℕ))
-numbers p = (p.directory, (p.first.number, (p.second.number, p.third.number)))
-
--- the order of listed paths is the order of their numbers
-abbrev pub by_path : IsTotalOrder (λ (x y : Listed) (r : Ordering). r ≡ order_of x.path y.path)
-by_path =
-    let o = pairs nat_cmp_total (then_total (on_total (λ p. p.0) nat_cmp_total) (on_total (λ p. p.1) (then_total (on_total (λ p. p.0) nat_cmp_total) (on_total (λ p. p.1) nat_cmp_total)))) in
-    record {
-      cmp = λ x y. order_of x.path y.path;
-      says = λ x y r h. h;
-      flip = λ x y. o.antisymm (numbers x.path) (numbers y.path);
-      trans = λ x y z. o.trans (numbers x.path) (numbers y.path) (numbers z.path);
-      alike = λ x y z. o.alike (numbers x.path) (numbers y.path) (numbers z.path);
-    }
+-- listed paths are in the order of their paths
+abbrev pub by_path : IsTotalOrder (λ (x y : Listed). order_of x.path y.path)
+by_path = on_total (λ (x : Listed). x.path) order_total
 
 -- paths that compare as equal are equal
 then_equal : (a b : Ordering) → ordering_then a b ≡ Equal → (a ≡ Equal) × (b ≡ Equal)

@@ -1,7 +1,7 @@
 -- A shuffle of the picked paths that is sorted is the listing. Assumes nothing.
 use Rattle.std.proofs.Common.{◌≡◌, ℕ, suc, ◌<◌, ◌≤◌, Bool, true, false, cond, List, [], ◌∷◌, length, get_or, is_some, Some, Ordering, Less, Equal, Greater, sym, refl, ap, ◌∙◌, subst, arith}
 use Rattle.std.specs.Ordering.{is_lt, ordering_reverse}
-use Rattle.std.specs.List.Sorted.{IsPermutation, IsSortedWithin}
+use Rattle.std.specs.List.Sorted.{IsPermutation, IsSortedBy}
 use Rattle.std.specs.Cmp.{IsStrictWeakOrder}
 use Rattle.std.specs.List.{ContainsAt as Has, AllByRecursion as All}
 use Rattle.std.proofs.lemmas.List.MinMax.{ranks_by}
@@ -44,7 +44,7 @@ strictly x (y ∷ ys) a h = (go (order_of x.path y.path) refl, strictly x ys a.1
     go : (o : Ordering) → order_of x.path y.path ≡ o → o ≡ Less
     go Less e = refl
     go Equal e = absurd (let t = times_own y ys in let s = ap (λ p. times p (y ∷ ys)) (order_equal x.path y.path e) in omega arith)
-    go Greater e = absurd (both_ways (lower y x) a.0 (ap is_lt (by_path.flip y x ∙ ap ordering_reverse e)))
+    go Greater e = absurd (both_ways (lower y x) a.0 (ap is_lt (by_path.antisymm y x ∙ ap ordering_reverse e)))
 
 -- a sorted list that has each path at most once
 ascends : (ys : List Listed) → Sorted ys → ((p : Path) → times p ys ≤ 1) → Ascending ys
@@ -118,8 +118,6 @@ sorted_far : (xs : List Listed) → ((i j : ℕ) (z : Listed) → i ≤ j → j 
 sorted_far [] h = tt
 sorted_far (x ∷ xs) h = (All-from_get_or (λ y. lower y x ≡ false) xs x (λ j l. h 0 (suc j) x (omega arith) (omega arith)), sorted_far xs (λ i j z a b. h (suc i) (suc j) z (omega arith) (omega arith)))
 
-pub sort_listing : (m : Meaning Recipe) → Sound m → (d : ℕ) (ys : List Listed) → IsPermutation (all_picks m d) ys → IsSortedWithin lower ys 0 (length (all_picks m d)) → ys ≡ listing m d
+pub sort_listing : (m : Meaning Recipe) → Sound m → (d : ℕ) (ys : List Listed) → IsPermutation (all_picks m d) ys → IsSortedBy lower ys → ys ≡ listing m d
 sort_listing m sound d ys moved up =
-    let ps = all_picks m d in
-    let whole = subst (λ n. IsSortedWithin lower ys 0 n) (sym (length_permutation ps ys moved)) up in
-    one_listing (entry_of m) d ys (listing m d) (sorted_lists m sound d ys moved (sorted_far ys (ascends_far lower ranked ys whole))) (listing_lists m sound d)
+    one_listing (entry_of m) d ys (listing m d) (sorted_lists m sound d ys moved (sorted_far ys (ascends_far lower ranked ys up))) (listing_lists m sound d)

@@ -1,7 +1,7 @@
 -- How far the loops over the places have come: what is counted, what is written, and what a sort makes of it. Assumes nothing.
 use Rattle.std.proofs.Common.{◌≡◌, ℕ, ◌+◌, ◌<◌, ◌≤◌, Bool, true, false, cond, ltb, List, [], ◌∷◌, ◌++◌, length, take, drop, set, Some, None, Ok, Err, Option, Result, sym, refl, ap, ◌∙◌, subst, ap₂, subst₂, arith}
 use mathlib.Core.Path.{fun_ext}
-use Rattle.std.specs.List.Sorted.{IsPermutation, IsSortedWithin}
+use Rattle.std.specs.List.Sorted.{IsPermutation, IsSortedBy}
 use Rattle.std.proofs.lemmas.Bool.{cond-true, cond-false, lt-ltb, le-ltb}
 use Rattle.std.proofs.lemmas.List.{append-nil, append_assoc, at_drop_more, at_drop_all, drop_at, drop-drop, drop-set-lt, take-append-drop, take_at, take_more_set}
 use Rattle.names.specs.Paths.{no_path}
@@ -78,11 +78,11 @@ module _ (m : Meaning Recipe) (d : ℕ) where
       ∙ ap₂ ◌++◌ (sym (append-nil (take t memory)) ∙ ap (λ u. take t memory ++ u) (sym (picks_all i le)) ∙ w.front) (w.back ∙ ap (λ n. drop n start) (counted_all i t le c))
 
   -- the memory where the picks at its front, k of them, are sorted
-  pub sorted_front : Sound m → (k : ℕ) (memory left ys : List Listed) → k ≡ length (all_picks m d) → left ≡ written (all_picks m d) memory → IsPermutation (take k left) ys → IsSortedWithin lower ys 0 (length (take k left)) → ys ++ drop k left ≡ written (listing m d) memory
+  pub sorted_front : Sound m → (k : ℕ) (memory left ys : List Listed) → k ≡ length (all_picks m d) → left ≡ written (all_picks m d) memory → IsPermutation (take k left) ys → IsSortedBy lower ys → ys ++ drop k left ≡ written (listing m d) memory
   sorted_front sound k memory left ys n e moved up =
       let front : take k left ≡ all_picks m d = ap (take k) e ∙ take_at (all_picks m d) _ k (sym n) in
       let back : drop k left ≡ drop (length (all_picks m d)) memory = ap (drop k) e ∙ drop_at (all_picks m d) _ k (sym n) in
-      let sorted = sort_listing m sound d ys (subst (λ u. IsPermutation u ys) front moved) (subst (λ u. IsSortedWithin lower ys 0 (length u)) front up) in
+      let sorted = sort_listing m sound d ys (subst (λ u. IsPermutation u ys) front moved) up in
       ap₂ ◌++◌ sorted (back ∙ ap (λ j. drop j memory) (sym (length_listing m d)))
 
   -- a memory that is too short, and one that is not

@@ -1,5 +1,7 @@
 ghost use Rattle.std.specs.Prelude.{◌≡◌, Some, refl};
 ghost use Rattle.names.specs.Paths.{same_path, order_of};
+ghost use Rattle.names.specs.Orders.{order_total};
+ghost use Rattle.listing.specs.declared.listed.Listed.{Listed as Entry};
 ghost use Rattle.std.specs.Cmp.Rules.{comparing};
 ghost use Rattle.std.proofs.Common.{rules};
 ghost use Rattle.std.specs.Cmp as Keys;
@@ -34,7 +36,7 @@ impl Eq for Listed {
 impl PartialOrd for Listed {
     ghost partial_cmp = { λ x y. Some (order_of x.path y.path) };
 
-    ghost laws = { partial_order_from_agreeing_total (λ x y. order_of x.path y.path) (Prim.search (comparing, rules)) (λ _ _. refl) (Prim.search (comparing, rules)) };
+    ghost laws = { partial_order_from_agreeing_total (λ x y. order_of x.path y.path) (Keys.on_total (λ (x : Entry). x.path) order_total) (λ _ _. refl) (Prim.search (comparing, rules)) };
 
     fn partial_cmp(&self, other: &Listed) -> Option<Ordering> {
         Some(self.path.cmp(&other.path))
@@ -44,7 +46,7 @@ impl PartialOrd for Listed {
 impl Ord for Listed {
     ghost cmp = { λ x y. order_of x.path y.path };
 
-    ghost total = { Prim.search (comparing, rules) };
+    ghost total = { Keys.on_total (λ (x : Entry). x.path) order_total };
 
     ghost matches_partial_cmp = { Prim.search (comparing, rules) };
 

@@ -71,7 +71,7 @@ pub fn list<S: Readable<Recipe>>(
         return Err(Ground::MemoryTooShort);
     }
     write_shown(store, directory, memory);
-    memory[0..total].sort();
+    memory[0..total].sort_unstable();
     Ok(total)
 }
 
