@@ -17,7 +17,7 @@ use Rattle.machine.specs.Sweeps.{Sweep, collecting, collected, spreading, finish
 use Rattle.machine.specs.Worlds.{Call, posts, mail, hand, lose, begin, press, collect, spread, confirm, close, abandon, World, sweep_number, with_ring, with_sweep, recorded, doing, step, run}
 use Rattle.agreement.proofs.Stores.{Present, entry_there}
 use Rattle.agreement.proofs.Round.{steps_to, next_below, steps_first, steps_next, steps_last, steps_below, steps_none, steps_same}
-use Rattle.agreement.proofs.Claims.{Sight, sight, Any, Own, Sourced, Has, Moving, Reached, Served, Told, LetterClaim, TrueLetter, SweepClaim, frozen_on, carried_on, sweep_on, carry, reach, moving_start, moving_again, moving_step, moving_end}
+use Rattle.agreement.proofs.Claims.{Sight, sight, Any, Own, Sourced, Has, Reached, Served, Told, LetterClaim, TrueLetter, SweepClaim, frozen_on, carried_on, sweep_on, carry, reach, moving_start, moving_again, moving_step, moving_end}
 use Rattle.agreement.proofs.Invariant.{Invariant, present_at, join_onward, join_keeps, post_keeps, floor_keeps, floor_up, sweep_onward, sweep_keeps, sweep_up, bag_keeps, letter_keeps, sweep_added, sweep_set}
 use Rattle.agreement.proofs.Tables.{IfFound, all_at, all_letter_at, all_without}
 use Rattle.agreement.proofs.Passing.{Passed, Roomy, settled_keeps, passed_later, has_copy, some_of_none, fills_none, and_second, tag_counted, tag_entry, tag_stored, tag_noted}

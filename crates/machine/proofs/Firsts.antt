@@ -1,5 +1,5 @@
 -- The first ground of two tables, one after the other. Assumes nothing.
-use Rattle.std.proofs.Common.{◌≡◌, ℕ, Bool, true, false, cond, List, [], ◌∷◌, ◌++◌, Some, None, Option, refl}
+use Rattle.std.proofs.Common.{◌≡◌, ℕ, Bool, true, false, cond, [], ◌∷◌, ◌++◌, Some, None, Option, refl}
 use Rattle.machine.specs.States.{Grounds, first_ground}
 
 abbrev pub or_else : Option ℕ → Option ℕ → Option ℕ

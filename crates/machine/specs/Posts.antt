@@ -1,5 +1,5 @@
 -- The calls on a ring but those on sweeps: post, mail, hand, lose. Assumes nothing.
-use Rattle.std.specs.Prelude.{ℕ, Bool, true, false, cond, not, ◌&&◌, ◌||◌, List, [], ◌∷◌, ◌++◌, length, Some, None, Option, Result, ◌==◌, nat_lt}
+use Rattle.std.specs.Prelude.{ℕ, Bool, true, false, not, ◌&&◌, ◌||◌, List, [], ◌∷◌, ◌++◌, length, Some, None, Option, Result, ◌==◌, nat_lt}
 use Rattle.names.specs.declared.path.Path.{Path}
 use Rattle.names.specs.Paths.{sound_path, no_path}
 use Rattle.names.specs.Stamps.{server_of}

@@ -1,5 +1,5 @@
 -- Sweeps as plain values, and the calls on them. Assumes nothing.
-use Rattle.std.specs.Prelude.{ℕ, ◌+◌, Bool, true, false, cond, not, ◌&&◌, ◌||◌, List, [], ◌∷◌, Some, None, Option, Result, ◌==◌, nat_le, nat_lt}
+use Rattle.std.specs.Prelude.{ℕ, ◌+◌, Bool, true, false, cond, not, ◌&&◌, ◌||◌, [], ◌∷◌, Some, None, Option, Result, ◌==◌, nat_le, nat_lt}
 use Rattle.names.specs.Stamps.{stamp_at}
 use Rattle.store.specs.Meaning.{count_of, full_for}
 use Rattle.letters.specs.declared.letter.Letter.{Letter}

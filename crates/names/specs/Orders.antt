@@ -1,5 +1,4 @@
 -- Paths are totally ordered. Assumes nothing.
-use Rattle.std.specs.Ordering.{nat_cmp}
 use Rattle.std.specs.Cmp.{IsTotalOrder, nat_cmp_total, on_total, then_total}
 use Rattle.names.specs.declared.path.Path.{Path}
 use Rattle.names.specs.Paths.{order_of}

@@ -1,14 +1,14 @@
 -- The laws of a store, from what its definitions say. Assumes nothing.
-use Rattle.std.proofs.Common.{◌≡◌, ℕ, zero, suc, ◌+◌, ◌<◌, ◌≤◌, Bool, true, false, cond, not, ◌&&◌, ◌||◌, eqb, ◌↔◌, List, [], ◌∷◌, ◌++◌, length, get_or, is_some, Some, None, Option, unwrap_or, sym, refl, ap, ◌∙◌, subst, arith}
+use Rattle.std.proofs.Common.{◌≡◌, ℕ, suc, ◌+◌, ◌≤◌, Bool, true, false, cond, not, ◌&&◌, eqb, List, [], ◌∷◌, ◌++◌, length, is_some, Some, None, Option, unwrap_or, sym, refl, ap, ◌∙◌, arith}
 use Rattle.std.proofs.lemmas.Bool.{cond-true, cond-false, both_ways, and_parts, and_from, not-true, eqb-true, eqb-false, eq-eqb}
 use Rattle.std.proofs.lemmas.List.{length_push}
 use Rattle.std.specs.Option.{option_map}
 use Rattle.names.specs.declared.path.Path.{Path}
-use Rattle.names.specs.Paths.{same_path, no_path}
-use Rattle.names.specs.Same.{same_is, same_refl, same_sym}
-use Rattle.store.specs.Meaning.{Meaning, Sound, paths_of, entries_of, path_in, entry_in, among, distinct, place_in, join_pairs, count_of, holds, place_of, path_at, entry_at, full_for, join_of}
+use Rattle.names.specs.Paths.{same_path}
+use Rattle.names.specs.Same.{same_is, same_refl}
+use Rattle.store.specs.Meaning.{Meaning, Sound, paths_of, entry_in, among, place_in, join_pairs, count_of, holds, place_of, path_at, entry_at, full_for, join_of}
 use Rattle.store.specs.Laws.{entry_under, entry_of, onto, RefusedExactlyWhenFull, RefusedChangesNothing, FoundAtItsPlace, HoldsOldJoinNew, OthersStay, PlacesStay, AgainChangesNothing, EitherOrder, FoundIsHeld, HeldIsFound, PastTheEnd}
-use Rattle.store.specs.Joins.{join_paths, join_distinct, among_push, length_paths}
+use Rattle.store.specs.Joins.{join_paths, join_distinct, length_paths}
 use Rattle.store.proofs.Places.{none_is, among_is, place_stands, place_push, place_push_other, place_own}
 use Rattle.store.proofs.Pairs.{path_past, entry_past, join_new, join_taken, join_refused}
 

@@ -1,5 +1,5 @@
 -- The laws of a store in plain words, over what it means. Assumes nothing.
-use Rattle.std.specs.Prelude.{◌≡◌, ℕ, ◌<◌, ◌≤◌, Bool, true, false, cond, ◌↔◌, List, [], ◌∷◌, Some, None, Option}
+use Rattle.std.specs.Prelude.{◌≡◌, ℕ, ◌<◌, ◌≤◌, true, false, cond, ◌↔◌, List, [], ◌∷◌, Some, None, Option}
 use Rattle.std.specs.Option.{unwrap_or}
 use Rattle.names.specs.declared.path.Path.{Path}
 use Rattle.names.specs.Paths.{same_path, no_path}

@@ -1,5 +1,5 @@
 -- What a table means. Assumes nothing.
-use Rattle.std.specs.Prelude.{◌≡◌, ℕ, ◌≤◌, List, map, length, take}
+use Rattle.std.specs.Prelude.{ℕ, ◌≤◌, List, map, length, take}
 use Rattle.std.proofs.Common.{subst, sym, ◌∙◌}
 use Rattle.std.proofs.lemmas.List.{length-take-le, length-map}
 use Rattle.store.specs.Meaning.{Meaning, Sound}

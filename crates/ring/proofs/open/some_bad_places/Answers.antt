@@ -1,4 +1,4 @@
-use Rattle.std.proofs.Common.{◌≡◌, sym, refl, ap, ◌∙◌, arith}
+use Rattle.std.proofs.Common.{sym, refl, ap, ◌∙◌, arith}
 use Rattle.ring.specs.Openings.{outside, bad_places}
 use Rattle.ring.proofs.Stores.{some_here, some_later, some_nowhere}
 use Rattle.ring.proofs.open.some_bad_places.Goals as goal

@@ -1,4 +1,4 @@
-use Rattle.std.proofs.Common.{◌≡◌, [], ◌∷◌, ◌++◌, sym, ap, ◌∙◌}
+use Rattle.std.proofs.Common.{[], ◌∷◌, ◌++◌, sym, ap, ◌∙◌}
 use Rattle.machine.specs.States.{store_of, decided, first_ground}
 use Rattle.machine.specs.Posts.{update_grounds, fills, posted}
 use Rattle.machine.proofs.Firsts.{or_else, first_of_both}

@@ -1,4 +1,4 @@
-use Rattle.std.proofs.Common.{◌≡◌, eqb, sym, ◌∙◌}
+use Rattle.std.proofs.Common.{sym}
 use Rattle.store.proofs.Pairs.{held_not_full, new_full}
 use Rattle.machine.specs.States.{store_of}
 use Rattle.ring.specs.Built.{state_of}

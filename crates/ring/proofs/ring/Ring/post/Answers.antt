@@ -1,7 +1,7 @@
-use Rattle.std.proofs.Common.{◌≡◌, [], ◌∷◌, Some, sym, ap, ◌∙◌}
+use Rattle.std.proofs.Common.{[], ◌∷◌, sym, ap, ◌∙◌}
 use Rattle.machine.specs.Kinds.{kind_of}
 use Rattle.machine.specs.States.{store_of, decided, first_ground}
-use Rattle.machine.specs.Posts.{update_grounds, fills, posting_grounds, posted}
+use Rattle.machine.specs.Posts.{update_grounds, fills, posted}
 use Rattle.machine.proofs.Firsts.{or_else, first_of_both}
 use Rattle.ring.specs.Built.{state_of}
 use Rattle.ring.proofs.ring.Ring.post.Goals as goal

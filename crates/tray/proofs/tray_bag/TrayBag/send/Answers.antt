@@ -1,8 +1,6 @@
-use Rattle.std.proofs.Common.{◌≡◌, ◌<◌, ◌≤◌, length, take, sym, ap, ◌∙◌, arith, length-set}
+use Rattle.std.proofs.Common.{◌<◌, length, take, sym, ◌∙◌, arith, length-set}
 use Rattle.std.proofs.lemmas.List.{take_more_set, length-take-le}
 use Rattle.std.proofs.lemmas.Bool.{cond-true, cond-false, le-leb, lt-leb}
-use Rattle.letters.specs.Mail.{Mail, is_full}
-use Rattle.tray.specs.Trays.{tray_mail}
 use Rattle.tray.proofs.tray_bag.TrayBag.send.Goals as goal
 
 pub returns-then-at-self : goal.returns-then-at-self
