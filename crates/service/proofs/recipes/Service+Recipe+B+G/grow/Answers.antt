@@ -1,4 +1,4 @@
-use Rattle.std.proofs.Common.{◌≡◌, [], map, vec_items, ap, ◌∙◌}
+use Rattle.std.proofs.Common.{[], map, vec_items, ap, ◌∙◌}
 use Rattle.machine.specs.States.{first_ground}
 use Rattle.machine.specs.Posts.{posting_grounds, posted}
 use Rattle.machine.specs.Worlds.{recorded}

@@ -1,8 +1,6 @@
-use Rattle.std.proofs.Common.{◌≡◌, map, set, Some, None, vec_items, sym, ap, ◌∙◌}
-use Rattle.grounds.specs.Grounds.{ground_number}
-use Rattle.letters.specs.Mail.{letter_at}
+use Rattle.std.proofs.Common.{◌≡◌, map, set, vec_items}
 use Rattle.machine.specs.Kinds.{kind_of}
-use Rattle.machine.specs.Sweeps.{Sweep, ended, abandon_grounds}
+use Rattle.machine.specs.Sweeps.{ended, abandon_grounds}
 use Rattle.machine.specs.Worlds.{nothing}
 use Rattle.ring.specs.Built.{state_of}
 use Rattle.service.specs.Calls.{of_kept, of_held}

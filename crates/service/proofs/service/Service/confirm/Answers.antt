@@ -2,7 +2,7 @@ use Rattle.std.proofs.Common.{◌≡◌, map, set, Some, None, vec_items, sym, a
 use Rattle.grounds.specs.Grounds.{ground_number}
 use Rattle.letters.specs.Mail.{letter_at}
 use Rattle.machine.specs.Kinds.{kind_of}
-use Rattle.machine.specs.Sweeps.{Sweep, confirm_grounds, after_confirm}
+use Rattle.machine.specs.Sweeps.{confirm_grounds, after_confirm}
 use Rattle.machine.specs.Worlds.{how_far}
 use Rattle.ring.specs.Built.{state_of, of_spreading, of_finished, of_when_confirmed}
 use Rattle.service.specs.Calls.{of_kept, of_held}

@@ -1,11 +1,11 @@
-use Rattle.std.proofs.Common.{◌≡◌, [], ◌∷◌, map, vec_items, sym, ap, ◌∙◌}
+use Rattle.std.proofs.Common.{[], map, vec_items, ap, ◌∙◌}
 use Rattle.machine.specs.Kinds.{kind_of}
 use Rattle.machine.specs.States.{first_ground}
 use Rattle.letters.specs.declared.letter.Tag.TheVariants.{News}
 use Rattle.machine.specs.States.{store_of, letter_sent}
 use Rattle.machine.specs.Posts.{mail_grounds, laden}
 use Rattle.ring.specs.Built.{state_of}
-use Rattle.service.specs.Calls.{of_kept, serving}
+use Rattle.service.specs.Calls.{of_kept}
 use Rattle.service.proofs.Steps.{ring_step}
 use Rattle.service.proofs.service.Service.mail.Goals as goal
 

@@ -1,10 +1,10 @@
-use Rattle.std.proofs.Common.{◌≡◌, [], ◌∷◌, map, vec_items, sym, ap, ◌∙◌}
+use Rattle.std.proofs.Common.{[], ◌∷◌, map, vec_items, ap, ◌∙◌}
 use Rattle.machine.specs.Kinds.{kind_of}
 use Rattle.machine.specs.States.{first_ground}
 use Rattle.machine.specs.Posts.{posting_grounds, posted}
 use Rattle.machine.specs.Worlds.{recorded}
 use Rattle.ring.specs.Built.{state_of}
-use Rattle.service.specs.Calls.{of_kept, serving}
+use Rattle.service.specs.Calls.{of_kept}
 use Rattle.service.proofs.Steps.{ring_step}
 use Rattle.service.proofs.service.Service.post.Goals as goal
 

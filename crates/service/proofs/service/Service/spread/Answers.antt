@@ -1,8 +1,7 @@
-use Rattle.std.proofs.Common.{◌≡◌, map, set, Some, None, vec_items, sym, ap, ◌∙◌}
+use Rattle.std.proofs.Common.{◌≡◌, map, set, Some, None, vec_items}
 use Rattle.grounds.specs.Grounds.{ground_number}
-use Rattle.letters.specs.Mail.{letter_at}
 use Rattle.machine.specs.Kinds.{kind_of}
-use Rattle.machine.specs.Sweeps.{Sweep, spread_grounds, after_spread}
+use Rattle.machine.specs.Sweeps.{spread_grounds, after_spread}
 use Rattle.machine.specs.Worlds.{nothing}
 use Rattle.ring.specs.Built.{state_of, of_collected, of_spreading}
 use Rattle.service.specs.Calls.{of_kept, of_held}

@@ -1,4 +1,4 @@
-use Rattle.std.proofs.Common.{◌≡◌, vec_items, arith}
+use Rattle.std.proofs.Common.{vec_items, arith}
 use lib.ListN.{length-map}
 use Rattle.service.specs.Calls.{of_kept}
 use Rattle.service.proofs.service.Service.sweeps.Goals as goal
