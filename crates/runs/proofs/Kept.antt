@@ -1,14 +1,13 @@
 -- The promise, from the agreement of copies and the laws of reading. Assumes nothing.
-use Rattle.std.proofs.Common.{◌≡◌, ℕ, ◌<◌, ◌≤◌, Bool, true, false, cond, not, ◌&&◌, ◌||◌, eqb, List, [], ◌∷◌, ◌++◌, map, length, get_or, set, is_ok, Some, None, Ok, Err, Option, Result, sym, refl, ap, ◌∙◌, subst, arith}
+use Rattle.std.proofs.Common.{◌≡◌, ℕ, ◌<◌, false, not, eqb, List, [], ◌∷◌, map, length, is_ok, Some, None, Ok, Option, sym, refl, ap, ◌∙◌, arith}
 use mathlib.Core.Path.{fun_ext}
 use Rattle.std.proofs.lemmas.List.{get_or-set_same}
 use Rattle.std.proofs.lemmas.Bool.{lt-ltb, cond-false, both_ways, or_parts, and_parts, not-false, eqb-false}
 use Rattle.names.specs.declared.label.Label.{Label}
-use Rattle.names.specs.Labels.{is_label}
 use Rattle.entries.specs.declared.recipe.Recipe.{Recipe}
-use Rattle.store.specs.Meaning.{Meaning, no_store, full_for}
+use Rattle.store.specs.Meaning.{Meaning, no_store}
 use Rattle.store.specs.Laws.{entry_of}
-use Rattle.reading.specs.Lookup.{Reading, Reading.refused, lookup_of, one_label}
+use Rattle.reading.specs.Lookup.{lookup_of}
 use Rattle.reading.specs.Growth.{used_in, Unused, grown, one_step_later}
 use Rattle.reading.proofs.Uses.{unused_exactly}
 use Rattle.reading.proofs.Grown.{outside_as_before, inside_one_step_later}
@@ -18,8 +17,8 @@ use Rattle.listing.proofs.Writes.{listings_alike}
 use Rattle.machine.specs.Kinds.{Laws}
 use Rattle.machine.specs.States.{State, Grounds, store_of, no_copy, first_ground, decided, settled}
 use Rattle.machine.specs.Posts.{posting_grounds, posted}
-use Rattle.machine.specs.Worlds.{World, Got, nothing, doing, step, run, opened}
-use Rattle.agreement.specs.Agreement.{Fresh, AllBelow, lower_stamp, CopiesAgree}
+use Rattle.machine.specs.Worlds.{World, Got, nothing, doing, step, opened}
+use Rattle.agreement.specs.Agreement.{Fresh}
 use Rattle.agreement.proofs.Agree.{agreement, finished_everywhere, stores_sound, always}
 use Rattle.agreement.proofs.Calls.{run_keeps}
 use Rattle.agreement.proofs.Invariant.{Invariant}
@@ -28,7 +27,7 @@ use Rattle.ring.specs.Recipes.{recipes, growth_update, growth_grounds, lookup_at
 use Rattle.service.specs.declared.recipe_call.RecipeCall.{RecipeCall}
 use Rattle.service.specs.declared.recipe_call.RecipeCall.TheVariants.{Ring, Grow}
 use Rattle.service.specs.RecipeCalls.{of_recipe_call}
-use Rattle.runs.specs.Promise.{LookupsAlike, ListingsAlike, GrowthHolds, GrowthsHold, after, Promise}
+use Rattle.runs.specs.Promise.{GrowthHolds, GrowthsHold, after, Promise}
 
 -- a copy below the number of copies is there
 here : (s : State Recipe) (c : ℕ) → c < s.copies → no_copy s c ≡ false

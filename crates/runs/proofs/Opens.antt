@@ -1,9 +1,9 @@
 -- What a check that found no ground says of stores and bag, and the laws of recipe entries. Assumes nothing.
-use Rattle.std.proofs.Common.{◌≡◌, ℕ, ◌≤◌, Bool, true, false, cond, not, ◌&&◌, ◌||◌, eqb, leb, List, [], ◌∷◌, length, replicate, is_ok, Some, None, Ok, Err, Option, Result, sym, refl, ap, ◌∙◌, arith}
+use Rattle.std.proofs.Common.{◌≡◌, ℕ, Bool, true, false, cond, leb, List, [], ◌∷◌, length, replicate, is_ok, Some, None, Ok, Err, Option, sym, refl, ap, ◌∙◌, arith}
 use Rattle.std.specs.List.{AllByRecursion as All}
 use Rattle.std.proofs.lemmas.Bool.{both_ways, or_parts, and_parts, not-false, eqb-true, leb-true}
 use Rattle.entries.specs.declared.recipe.Recipe.{Recipe}
-use Rattle.entries.specs.Recipes.{key, later, join_recipes}
+use Rattle.entries.specs.Recipes.{key, later}
 use Rattle.entries.specs.Keys.{recipes_commute, recipes_associate}
 use Rattle.store.specs.Meaning.{Meaning, count_of}
 use Rattle.store.specs.declared.bank.Bank.{Ghosts as Banks}

@@ -1,5 +1,5 @@
 -- A built run, as the machine has it. Assumes nothing.
-use Rattle.std.specs.Prelude.{◌≡◌, ℕ, List, [], ◌∷◌, map, Some, None, Option, Result}
+use Rattle.std.specs.Prelude.{◌≡◌, ℕ, List, [], ◌∷◌, map, Some, None, Result}
 use Rattle.grounds.specs.Grounds.{ground_number}
 use Rattle.entries.specs.declared.recipe.Recipe.{Recipe}
 use Rattle.store.specs.Meaning.{Meaning}
@@ -15,7 +15,7 @@ use Rattle.service.specs.Calls.{world_of, seen}
 use Rattle.service.specs.RecipeCalls.{of_recipe_call}
 use Rattle.runs.specs.declared.ran.NotRun.{NotRun}
 use Rattle.runs.specs.declared.ran.NotRun.TheVariants.{Refused, NoMemory}
-use Rattle.runs.specs.Promise.{after, Promise}
+use Rattle.runs.specs.Promise.{after}
 
 -- the answers of a list of calls on a ring in service, and the ring and its sweeps after it
 abbrev pub runs_from : State Recipe × List Sweep → List RecipeCall → List (Result Got ℕ) × (State Recipe × List Sweep)
