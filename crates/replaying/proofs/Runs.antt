@@ -1,5 +1,5 @@
 -- A replay as a run of the calls that its lines make, on a ring that opens. Assumes nothing.
-use Rattle.std.proofs.Common.{◌≡◌, ℕ, suc, true, false, cond, List, [], ◌∷◌, map, is_some, Some, None, Ok, Err, string_bytes, Option, Result, sym, refl, ap, ◌∙◌, subst, MatchResult}
+use Rattle.std.proofs.Common.{◌≡◌, ℕ, suc, List, [], ◌∷◌, map, is_some, None, Ok, Err, Result, refl, ap, ◌∙◌, subst, MatchResult}
 use Rattle.std.proofs.lemmas.Bool.{both_ways}
 use Rattle.entries.specs.declared.recipe.Recipe.{Recipe}
 use Rattle.store.specs.Meaning.{Meaning, empty_store, count_of}

@@ -2,7 +2,7 @@
 use Rattle.std.proofs.Common.{◌≡◌, ℕ, Bool, true, false, cond, eqb, ◌⊎◌, List, [], ◌∷◌, ◌++◌, length, sym, refl, ap, ◌∙◌, inl, inr, arith}
 use Rattle.std.proofs.lemmas.Bool.{eqb-true, eqb-false}
 use Rattle.replaying.specs.Replays.{before_first, lines_of}
-use Rattle.replaying.specs.Lines.{ended, Unended, AllUnended, IsItsLines}
+use Rattle.replaying.specs.Lines.{ended, AllUnended, IsItsLines}
 
 -- a byte that is not 10 before the first line
 unended_first : (b : ℕ) (ls : List (List ℕ)) → (b ≡ 10 → ⊥) → AllUnended ls → AllUnended (before_first b ls)

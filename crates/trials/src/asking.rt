@@ -7,6 +7,8 @@ use names::{Label, Path, Stamp};
 use reading::{Answer, Refusal};
 use ring::Opening;
 use service::{Call, Got, Service, Trouble};
+use std::alloc::AllocGlobal;
+use std::process::Abort;
 use std::test::*;
 use store::{Bank, NoMore, Store};
 use table::{Table, TableSlot};
@@ -125,7 +127,7 @@ fn comes<B: Bank<Recipe>, G: Bag<Letter<Recipe>>>(
 
 // Goes through a table on a ring that is opened over the stores and the bag.
 fn go_through<B: Bank<Recipe> + Drop, G: Bag<Letter<Recipe>> + Drop>(
-    rt: &HostRuntime,
+    rt: &(impl Abort + AllocGlobal),
     stores: B,
     bag: G,
     rows: &[Row],
@@ -136,7 +138,7 @@ fn go_through<B: Bank<Recipe> + Drop, G: Bag<Letter<Recipe>> + Drop>(
             let mut number = 0usize;
             'rows: for row in rows {
                 let (asked, due) = *row;
-                assert_eq!(comes(&mut service, asked), due, "row {number}");
+                assert_eq!(rt; comes(&mut service, asked), due, "row {number}");
                 number = number.saturating_add(1);
             }
             Ok(())
@@ -154,13 +156,20 @@ fn over_three<
     B: Store<Recipe> + Drop,
     C: Store<Recipe> + Drop,
     G: Bag<Letter<Recipe>> + Drop,
->(rt: &HostRuntime, first: A, second: B, third: C, bag: G, rows: &[Row]) -> Result<(), Fail> {
+>(
+    rt: &(impl Abort + AllocGlobal),
+    first: A,
+    second: B,
+    third: C,
+    bag: G,
+    rows: &[Row],
+) -> Result<(), Fail> {
     go_through(rt, (first, (second, (third, NoMore))), bag, rows)
 }
 
 // Goes through a table on a ring just opened of two tables and a log, with a place in the bag for each of the letters.
 pub(crate) fn on_a_ring(
-    rt: &HostRuntime,
+    rt: &(impl Abort + AllocGlobal),
     letters: &mut [Letter<Recipe>],
     rows: &[Row],
 ) -> Result<(), Fail> {

@@ -5,6 +5,8 @@ use entries::{Content, Joinable, Recipe};
 use letters::{Letter, Tag};
 use names::Path;
 use service::Call;
+use std::alloc::AllocGlobal;
+use std::process::Abort;
 use std::test::*;
 
 // Memory for a letter.
@@ -22,7 +24,7 @@ fn blank_letter() -> Letter<Recipe> {
 }
 
 // Goes through a table with room for all its letters.
-fn with_room(rt: &HostRuntime, rows: &[Row]) -> Result<(), Fail> {
+fn with_room(rt: &(impl Abort + AllocGlobal), rows: &[Row]) -> Result<(), Fail> {
     let mut letters = [blank_letter(); 32];
     on_a_ring(rt, &mut letters, rows)
 }

@@ -1,4 +1,4 @@
-use Rattle.std.proofs.Common.{◌≡◌, List, [], length, ap, ◌∙◌}
+use Rattle.std.proofs.Common.{List, [], length, ap, ◌∙◌}
 use Rattle.entries.specs.declared.recipe.Recipe.{Recipe}
 use Rattle.machine.specs.States.{State}
 use Rattle.machine.specs.Sweeps.{Sweep}

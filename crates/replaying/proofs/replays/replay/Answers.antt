@@ -1,4 +1,4 @@
-use Rattle.std.proofs.Common.{◌≡◌, ◌<◌, ◌≤◌, List, [], ◌∷◌, length, string_bytes, sym, ap, ◌∙◌, arith}
+use Rattle.std.proofs.Common.{◌≡◌, ◌<◌, ◌≤◌, List, [], ◌∷◌, length, string_bytes, sym, ap, ◌∙◌}
 use Rattle.std.proofs.lemmas.Bool.{lt-ltb, le-ltb, cond-true, cond-false}
 use Rattle.entries.specs.declared.recipe.Recipe.{Recipe}
 use Rattle.entries.specs.Recipes.{join_recipes}
@@ -7,7 +7,7 @@ use Rattle.table.specs.Tables.{table_meaning}
 use Rattle.folding_log.specs.Logs.{log_meaning}
 use Rattle.tray.specs.Trays.{tray_mail}
 use Rattle.report.specs.Reports.{report_line}
-use Rattle.replaying.specs.Replays.{refused, report_of, lines_of, replayed, stores, at_first}
+use Rattle.replaying.specs.Replays.{report_of, lines_of, replayed, stores, at_first}
 use Rattle.replaying.proofs.Runs.{covered, no_letters, on_its_ring, text_is}
 use Rattle.replaying.proofs.replays.replay.Goals as goal
 

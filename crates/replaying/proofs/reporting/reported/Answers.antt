@@ -1,4 +1,4 @@
-use Rattle.std.proofs.Common.{◌≡◌, suc, ◌+◌, ◌-◌, ◌<◌, ◌≤◌, List, ◌∷◌, ◌++◌, length, take, drop, string_bytes, sym, ap, ◌∙◌, arith, length-drop, rules}
+use Rattle.std.proofs.Common.{◌≡◌, suc, ◌+◌, ◌-◌, ◌<◌, List, ◌∷◌, ◌++◌, length, take, drop, string_bytes, sym, ap, ◌∙◌, arith, length-drop, rules}
 use Rattle.service.specs.Calls.{serving}
 use Rattle.lines.specs.Fields.{before_byte}
 use Rattle.report.specs.Reports.{report_line}
