@@ -1,6 +1,6 @@
 -- Every call keeps the invariant. Assumes nothing.
 use Rattle.std.proofs.Common.{◌≡◌, ℕ, suc, ◌+◌, ◌<◌, ◌≤◌, true, false, cond, ◌&&◌, eqb, List, [], ◌∷◌, ◌++◌, set, Some, None, Option, sym, refl, ap, ◌∙◌, subst, ⊎_elim, arith}
-use Rattle.std.specs.List.{AllByRecursion as All}
+use Rattle.std.specs.List.{AllByRecursion}
 use Rattle.std.proofs.lemmas.Bool.{and_parts, cases_lt, cond_both, cond-false, cond-true, eqb-false, eqb-true, ltb-false, ltb-true, not-false, not_from_false, or_parts, true≢false}
 use Rattle.std.proofs.lemmas.List.{get_or-set_same, set-get_or, set-set}
 use Rattle.names.specs.declared.path.Path.{Path}
@@ -34,7 +34,7 @@ module _ {K : Type 0} (k : Kind K) (laws : Laws k) (start : List (Meaning K)) wh
       (subst (λ z. LetterClaim k S l.tag l.sender l.addressee z l.place l.count (l.path, l.entry)) (eqb-true _ _ a₂.1) h.claim)))
 
   -- updates posted at a copy one after another keep the invariant
-  posts_keep : (c : ℕ) (xs : List (Path × K)) (w : World K) → Invariant k start w → c < w.ring.copies → All (λ x. late k w.ring c x ≡ false) xs → Roomy k (store_of w.ring c) xs → Invariant k start (record { ring = posted k w.ring c xs; sweeps = w.sweeps; updates = recorded c xs w.updates })
+  posts_keep : (c : ℕ) (xs : List (Path × K)) (w : World K) → Invariant k start w → c < w.ring.copies → AllByRecursion (λ x. late k w.ring c x ≡ false) xs → Roomy k (store_of w.ring c) xs → Invariant k start (record { ring = posted k w.ring c xs; sweeps = w.sweeps; updates = recorded c xs w.updates })
   posts_keep c [] w inv lc f r =
       subst (λ ms. Invariant k start (record { ring = record { copies = w.ring.copies; heads = w.ring.heads; stores = ms; bag = w.ring.bag }; sweeps = w.sweeps; updates = w.updates })) (sym (set-get_or w.ring.stores c no_store)) inv
   posts_keep c (x ∷ xs) w inv lc f r =

@@ -1,6 +1,6 @@
 -- What holds of a ring after every call, and what each change of a ring has to show to keep it. Assumes nothing.
 use Rattle.std.proofs.Common.{◌≡◌, ℕ, ◌<◌, ◌≤◌, max, false, List, [], ◌∷◌, ◌++◌, length, get_or, set, Some, sym, refl, ◌∙◌, subst, inl, inr, ⊎_elim, arith}
-use Rattle.std.specs.List.{AllByRecursion as All}
+use Rattle.std.specs.List.{AllByRecursion}
 use Rattle.std.proofs.lemmas.Bool.{cases_lt, cond_both}
 use Rattle.std.proofs.lemmas.List.{length-set, get_or-set_same}
 use Rattle.std.proofs.ByRecursion.{All-weaker, All-push, All-set}
@@ -40,8 +40,8 @@ module _ {K : Type 0} (k : Kind K) where
     pub basis : Basis (sight w)
     pub frozen : (c : ℕ) → Frozen k (sight w) (sweep_of w.ring c) Any
     pub has : (c : ℕ) → Has k (sight w) (sweep_of w.ring c) Any c
-    pub letters : All (TrueLetter k (sight w)) w.ring.bag.letters
-    pub sweeps : All (SweepClaim k (sight w)) w.sweeps
+    pub letters : AllByRecursion (TrueLetter k (sight w)) w.ring.bag.letters
+    pub sweeps : AllByRecursion (SweepClaim k (sight w)) w.sweeps
 
 module _ {K : Type 0} (k : Kind K) (laws : Laws k) (start : List (Meaning K)) (w : World K) (inv : Invariant k start w) where
   -- the world with other heads, stores and updates
@@ -235,18 +235,18 @@ module _ {K : Type 0} (k : Kind K) (laws : Laws k) (start : List (Meaning K)) (w
     sweep_up lc = subst (λ h. s ≤ h.sweep) (sym (changed_here c (lift_sweep s) rising_sweep lc)) (omega arith)
 
   -- another bag and other sweeps whose claims are true keep the invariant
-  rest_keeps : (b : Mail (Letter K)) (sws : List Sweep) → All (TrueLetter k (sight w)) b.letters → All (SweepClaim k (sight w)) sws → Invariant k start (record { ring = with_bag w.ring b; sweeps = sws; updates = w.updates })
+  rest_keeps : (b : Mail (Letter K)) (sws : List Sweep) → AllByRecursion (TrueLetter k (sight w)) b.letters → AllByRecursion (SweepClaim k (sight w)) sws → Invariant k start (record { ring = with_bag w.ring b; sweeps = sws; updates = w.updates })
   rest_keeps b sws h g =
       record { two = inv.two; eight = inv.eight; copies = inv.copies; heads = inv.heads; stores = inv.stores; places = inv.places; basis = inv.basis; frozen = inv.frozen; has = inv.has; letters = h; sweeps = g }
 
   -- so does another bag
-  pub bag_keeps : (b : Mail (Letter K)) → All (TrueLetter k (sight w)) b.letters → Invariant k start (with_ring w (with_bag w.ring b))
+  pub bag_keeps : (b : Mail (Letter K)) → AllByRecursion (TrueLetter k (sight w)) b.letters → Invariant k start (with_ring w (with_bag w.ring b))
   bag_keeps b h = rest_keeps b w.sweeps h inv.sweeps
 
   -- one letter more
   pub letter_keeps : (l : Letter K) → TrueLetter k (sight w) l → Invariant k start (with_ring w (letter_sent w.ring l))
   letter_keeps l h =
-      bag_keeps (sent w.ring.bag l) (cond_both (is_full w.ring.bag) _ _ (λ (b : Mail (Letter K)). All (TrueLetter k (sight w)) b.letters) (λ _. inv.letters) (λ _. All-push (TrueLetter k (sight w)) _ l inv.letters h))
+      bag_keeps (sent w.ring.bag l) (cond_both (is_full w.ring.bag) _ _ (λ (b : Mail (Letter K)). AllByRecursion (TrueLetter k (sight w)) b.letters) (λ _. inv.letters) (λ _. All-push (TrueLetter k (sight w)) _ l inv.letters h))
 
   -- one sweep more
   pub sweep_added : (sw : Sweep) → SweepClaim k (sight w) sw → Invariant k start (record { ring = w.ring; sweeps = w.sweeps ++ sw ∷ []; updates = w.updates })

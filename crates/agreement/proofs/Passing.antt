@@ -1,6 +1,6 @@
 -- What is known of a call that no ground refuses. Assumes nothing.
 use Rattle.std.proofs.Common.{◌≡◌, ℕ, ◌<◌, Bool, true, false, cond, ◌&&◌, ◌||◌, ltb, List, [], ◌∷◌, ◌++◌, Some, None, Option, sym, refl, ap, ◌∙◌}
-use Rattle.std.specs.List.{AllByRecursion as All}
+use Rattle.std.specs.List.{AllByRecursion}
 use Rattle.std.proofs.lemmas.Bool.{false≢true, ltb-true, not-false, or_parts}
 use Rattle.names.specs.declared.path.Path.{Path}
 use Rattle.store.specs.Meaning.{Meaning, full_for, join_of}
@@ -44,7 +44,7 @@ pub has_copy : {K : Type 0} (s : State K) (c : ℕ) → no_copy s c ≡ false �
 has_copy s c h = ltb-true c s.copies (not-false (ltb c s.copies) h)
 
 -- where no element passes a test, nor did one before, each fails it
-some_more_none : {A : Type 0} (f : A → Bool) (b : Bool) (xs : List A) → some_more f b xs ≡ false → (b ≡ false) × All (λ x. f x ≡ false) xs
+some_more_none : {A : Type 0} (f : A → Bool) (b : Bool) (xs : List A) → some_more f b xs ≡ false → (b ≡ false) × AllByRecursion (λ x. f x ≡ false) xs
 some_more_none f b [] h = (h, tt)
 some_more_none f b (x ∷ xs) h =
     let r = some_more_none f (b || f x) xs h in
@@ -52,7 +52,7 @@ some_more_none f b (x ∷ xs) h =
     (o.0, (o.1, r.1))
 
 -- where no element passes a test, each fails it
-pub some_of_none : {A : Type 0} (f : A → Bool) (xs : List A) → some_of f xs ≡ false → All (λ x. f x ≡ false) xs
+pub some_of_none : {A : Type 0} (f : A → Bool) (xs : List A) → some_of f xs ≡ false → AllByRecursion (λ x. f x ≡ false) xs
 some_of_none f [] h = tt
 some_of_none f (x ∷ xs) h = some_more_none f (f x) xs h
 

@@ -1,6 +1,6 @@
 -- Lists that are read and written at a number: stores and heads by copy, letters and sweeps. Assumes nothing.
 use Rattle.std.proofs.Common.{◌≡◌, ℕ, zero, suc, List, [], ◌∷◌, get_or, set, Some, None, Option, refl, ap, arith}
-use Rattle.std.specs.List.{AllByRecursion as All}
+use Rattle.std.specs.List.{AllByRecursion}
 use Rattle.letters.specs.Mail.{letter_at, without}
 
 -- an answer is some value or none
@@ -16,7 +16,7 @@ change_case P (x ∷ xs) (suc c) zero f z old new = old
 change_case P (x ∷ xs) (suc c) (suc d) f z old new = change_case P xs c d f z old (λ e. new (ap suc e))
 
 -- what holds of each, and of the default, holds of what is read
-pub all_at : {A : Type 0} (P : A → Type 0) (xs : List A) (i : ℕ) (z : A) → P z → All P xs → P (get_or xs i z)
+pub all_at : {A : Type 0} (P : A → Type 0) (xs : List A) (i : ℕ) (z : A) → P z → AllByRecursion P xs → P (get_or xs i z)
 all_at P [] i z p h = p
 all_at P (x ∷ xs) zero z p h = h.0
 all_at P (x ∷ xs) (suc i) z p h = all_at P xs i z p h.1
@@ -27,13 +27,13 @@ IfFound P None = Unit {0}
 IfFound P (Some x) = P x
 
 -- what holds of each letter holds of the one that is found by its number
-pub all_letter_at : {A : Type 0} (P : A → Type 0) (xs : List A) (i : ℕ) → All P xs → IfFound P (letter_at xs i)
+pub all_letter_at : {A : Type 0} (P : A → Type 0) (xs : List A) (i : ℕ) → AllByRecursion P xs → IfFound P (letter_at xs i)
 all_letter_at P [] i h = tt
 all_letter_at P (x ∷ xs) zero h = h.0
 all_letter_at P (x ∷ xs) (suc i) h = all_letter_at P xs i h.1
 
 -- and of each that stays when one is taken out
-pub all_without : {A : Type 0} (P : A → Type 0) (xs : List A) (i : ℕ) → All P xs → All P (without xs i)
+pub all_without : {A : Type 0} (P : A → Type 0) (xs : List A) (i : ℕ) → AllByRecursion P xs → AllByRecursion P (without xs i)
 all_without P [] i h = tt
 all_without P (x ∷ xs) zero h = h.1
 all_without P (x ∷ xs) (suc i) h = (h.0, all_without P xs i h.1)

@@ -1,6 +1,6 @@
 -- What the copies of a ring agree on after any list of calls. Assumes nothing.
 use Rattle.std.specs.Prelude.{◌≡◌, ℕ, ◌<◌, ◌≤◌, min, true, false, cond, ◌⊎◌, List, [], ◌∷◌, length, Some, None, Option, slice_index_or}
-use Rattle.std.specs.List.{AllByRecursion as All}
+use Rattle.std.specs.List.{AllByRecursion}
 use Rattle.names.specs.declared.path.Path.{Path}
 use Rattle.names.specs.Paths.{same_path}
 use Rattle.store.specs.Meaning.{Meaning, Sound, no_store, holds, place_of, join_of}
@@ -17,7 +17,7 @@ In a (x ∷ xs) = (a ≡ x) ⊎ In a xs
 
 -- each store holds nothing
 abbrev pub AllEmpty : {K : Type 0} → List (Meaning K) → Type 0
-AllEmpty stores = All (λ m. m.pairs ≡ []) stores
+AllEmpty stores = AllByRecursion (λ m. m.pairs ≡ []) stores
 
 -- stores that a ring can be opened over: two to eight, and empty
 pub record Fresh {K : Type 0} (stores : List (Meaning K)) : Type 0 where

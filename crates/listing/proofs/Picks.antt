@@ -1,7 +1,7 @@
 -- Which paths are picked from the pairs: those of the directory that are shown, each once. Assumes nothing.
 use Rattle.std.proofs.Common.{◌≡◌, ℕ, ◌+◌, ◌≤◌, Bool, true, false, cond, ◌||◌, eqb, List, [], ◌∷◌, Some, None, sum_by, Option, sym, refl, ap, ◌∙◌, subst, arith}
 use Rattle.std.specs.Option.{option_map}
-use Rattle.std.specs.List.{ContainsAt as Has, AllByRecursion as All}
+use Rattle.std.specs.List.{ContainsAt as Has, AllByRecursion}
 use Rattle.std.specs.List.Sorted.{IsPermutation}
 use Rattle.std.proofs.lemmas.List.Sorted.{sum_by-IsPermutation}
 use Rattle.std.proofs.lemmas.List.Sums.{sum_by-cons}
@@ -33,11 +33,11 @@ pub holds_pick : (f : Look) (d : ℕ) (x : Listed) → x.path.directory ≡ d �
 holds_pick f d x q h = cond-true _ _ _ (eq-eqb x.path.directory d q) ∙ ap (option_map (listed x.path)) (holds_shown f x.path x.content h)
 
 -- each element is what is picked at its path
-pub picks_picked : (f : Look) (d : ℕ) (ps : List (Path × Recipe)) → All (λ x. pick f d x.path ≡ Some x) (picks f d ps)
+pub picks_picked : (f : Look) (d : ℕ) (ps : List (Path × Recipe)) → AllByRecursion (λ x. pick f d x.path ≡ Some x) (picks f d ps)
 picks_picked f d [] = tt
 picks_picked f d (y ∷ ys) = go (pick f d y.0) refl (picks_picked f d ys)
   where
-    go : (o : Option Listed) → pick f d y.0 ≡ o → All (λ x. pick f d x.path ≡ Some x) (picks f d ys) → All (λ x. pick f d x.path ≡ Some x) (with_first o (picks f d ys))
+    go : (o : Option Listed) → pick f d y.0 ≡ o → AllByRecursion (λ x. pick f d x.path ≡ Some x) (picks f d ys) → AllByRecursion (λ x. pick f d x.path ≡ Some x) (with_first o (picks f d ys))
     go None q ih = ih
     go (Some x) q ih = (ap (pick f d) (pick_holds f d y.0 x q).0 ∙ q, ih)
 

@@ -3,7 +3,7 @@ use Rattle.std.proofs.Common.{◌≡◌, ℕ, suc, ◌<◌, ◌≤◌, Bool, tru
 use Rattle.std.specs.Ordering.{is_lt, ordering_reverse}
 use Rattle.std.specs.List.Sorted.{IsPermutation, IsSortedBy}
 use Rattle.std.specs.Cmp.{IsStrictWeakOrder}
-use Rattle.std.specs.List.{ContainsAt as Has, AllByRecursion as All}
+use Rattle.std.specs.List.{ContainsAt as Has, AllByRecursion}
 use Rattle.std.proofs.lemmas.List.MinMax.{ranks_by}
 use Rattle.std.proofs.ByRecursion.{all-has, All-from_get_or, All-weaker, all_shuffled, has_shuffled}
 use Rattle.std.proofs.lemmas.List.Sorted.{IsPermutation-refl, IsPermutation-cons, IsPermutation-trans, IsPermutation-swap, length_permutation, sorted_far as ascends_far}
@@ -34,10 +34,10 @@ ranked = ranks_by by_path (λ (x : Listed). x)
 -- no path is lower than one before it
 abbrev Sorted : List Listed → Type 0
 Sorted [] = Unit {0}
-Sorted (x ∷ xs) = All (λ y. lower y x ≡ false) xs × Sorted xs
+Sorted (x ∷ xs) = AllByRecursion (λ y. lower y x ≡ false) xs × Sorted xs
 
 -- the paths above another, where none is the same
-strictly : (x : Listed) (ys : List Listed) → All (λ y. lower y x ≡ false) ys → times x.path ys ≤ 0 → All (λ y. order_of x.path y.path ≡ Less) ys
+strictly : (x : Listed) (ys : List Listed) → AllByRecursion (λ y. lower y x ≡ false) ys → times x.path ys ≤ 0 → AllByRecursion (λ y. order_of x.path y.path ≡ Less) ys
 strictly x [] a h = tt
 strictly x (y ∷ ys) a h = (go (order_of x.path y.path) refl, strictly x ys a.1 (omega (arith, times_first x.path y ys)))
   where
@@ -87,7 +87,7 @@ order_shuffled [] = IsPermutation-refl []
 order_shuffled (x ∷ xs) = IsPermutation-trans _ _ _ (IsPermutation-cons x xs (in_order xs) (order_shuffled xs)) (insert_shuffled x (in_order xs))
 
 -- and it is sorted
-all_insert : (P : Listed → Type 0) (x : Listed) (ys : List Listed) → P x → All P ys → All P (insert x ys)
+all_insert : (P : Listed → Type 0) (x : Listed) (ys : List Listed) → P x → AllByRecursion P ys → AllByRecursion P (insert x ys)
 all_insert P x ys h a = all_shuffled P (x ∷ ys) (insert x ys) (insert_shuffled x ys) (h, a)
 
 insert_sorted : (x : Listed) (ys : List Listed) → Sorted ys → Sorted (insert x ys)

@@ -3,7 +3,7 @@ use Rattle.std.specs.Prelude.{◌≡◌, ℕ, cond, ◌↔◌, List, [], ◌∷�
 use Rattle.std.specs.declared.cmp.Ordering.TheVariants.{Less}
 use Rattle.std.specs.Option.{option_map}
 use Rattle.std.specs.Ordering.{is_lt}
-use Rattle.std.specs.List.{ContainsAt as Has, AllByRecursion as All}
+use Rattle.std.specs.List.{ContainsAt as Has, AllByRecursion}
 use Rattle.names.specs.declared.path.Path.{Path}
 use Rattle.names.specs.Paths.{order_of}
 use Rattle.entries.specs.declared.recipe.Content.{Content}
@@ -65,7 +65,7 @@ list_after m d memory = cond (nat_lt (length memory) (length (listing m d))) mem
 -- each path is lower than all that follow
 abbrev pub Ascending : List Listed → Type 0
 Ascending [] = Unit {0}
-Ascending (x ∷ xs) = All (λ y. order_of x.path y.path ≡ Less) xs × Ascending xs
+Ascending (x ∷ xs) = AllByRecursion (λ y. order_of x.path y.path ≡ Less) xs × Ascending xs
 
 -- the list has exactly the paths of the directory that the rules show, each with its content, in ascending order
 pub record Lists (f : Look) (d : ℕ) (xs : List Listed) : Type 0 where

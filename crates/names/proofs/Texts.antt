@@ -1,7 +1,7 @@
 -- A text, and the number that it is kept as. Assumes nothing.
 use Rattle.std.proofs.Common.{◌≡◌, ℕ, zero, suc, ◌+◌, ◌*◌, ◌/◌, ◌%◌, ◌^◌, ◌<◌, ◌≤◌, Bool, true, false, cond, ◌&&◌, eqb, ltb, leb, ◌↔◌, List, [], ◌∷◌, length, get_or, drop, Some, None, IsUtf8, IsAscii, Option, sym, refl, ap, ◌∙◌, subst, div-add-mod', arith}
 use native.Mathlib.Nat.{div-div-eq-div-mul}
-use Rattle.std.specs.List.{AllByRecursion as All}
+use Rattle.std.specs.List.{AllByRecursion}
 use Rattle.std.proofs.lemmas.Str.Ascii.{IsAscii-nil, IsAscii-cons}
 use Rattle.std.proofs.lemmas.Str.{IsUtf8-from_ascii}
 use Rattle.std.proofs.lemmas.Bool.{false≢true, cond-true, cond-false, cond_both, and_parts, and_from, eqb-true, ne_eqb, lt-ltb, le-leb, ltb-true, leb-true}
@@ -35,7 +35,7 @@ packed_eight n lt =
     cc
 
 -- eight bytes are those of the number that they make
-eight_packed : (a b c d e f g h : ℕ) → let bs = a ∷ b ∷ c ∷ d ∷ e ∷ f ∷ g ∷ h ∷ [] in All (λ b. b < 256) bs → eight (packed 0 8 bs) ≡ bs
+eight_packed : (a b c d e f g h : ℕ) → let bs = a ∷ b ∷ c ∷ d ∷ e ∷ f ∷ g ∷ h ∷ [] in AllByRecursion (λ b. b < 256) bs → eight (packed 0 8 bs) ≡ bs
 eight_packed a b c d e f g h (la, (lb, (lc, (ld, (le, (lf, (lg, (lh, _)))))))) =
     let n = packed 0 8 (a ∷ b ∷ c ∷ d ∷ e ∷ f ∷ g ∷ h ∷ []) in
     let i : n / 72057594037927936 % 256 ≡ a = omega arith in
@@ -58,7 +58,7 @@ packed_filled zero n bs = refl
 packed_filled (suc k) n [] = let z : n * 256 + 0 ≡ n * 256 = omega arith in packed_filled k (n * 256 + 0) [] ∙ ap (λ m. packed m k []) z
 packed_filled (suc k) n (b ∷ bs) = packed_filled k (n * 256 + b) bs
 
-filled_small : (k : ℕ) (bs : List ℕ) → all_legal bs ≡ true → All (λ b. b < 256) (filled k bs)
+filled_small : (k : ℕ) (bs : List ℕ) → all_legal bs ≡ true → AllByRecursion (λ b. b < 256) (filled k bs)
 filled_small zero bs h = tt
 filled_small (suc k) [] h = (omega arith, filled_small k [] h)
 filled_small (suc k) (b ∷ bs) h = let p = and_parts (legal b) (all_legal bs) h in (omega (arith, legal_byte b p.0), filled_small k bs p.1)

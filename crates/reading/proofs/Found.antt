@@ -1,6 +1,6 @@
 -- What a store holds under a path, by the place that it answers for the path. Assumes nothing.
 use Rattle.std.proofs.Common.{◌≡◌, ℕ, Bool, true, false, cond, ◌||◌, List, [], ◌∷◌, is_some, Some, None, sym, refl, ap, ◌∙◌, subst}
-use Rattle.std.specs.List.{AllByRecursion as All}
+use Rattle.std.specs.List.{AllByRecursion}
 use Rattle.std.proofs.lemmas.Bool.{both_ways}
 use Rattle.names.specs.declared.path.Path.{Path}
 use Rattle.names.specs.Paths.{same_path}
@@ -32,7 +32,7 @@ module _ {K : Type 0} where
   found blank m p i e h q = (found_is_held blank m p i (sym h)).2 ∙ ap Some (sym q)
 
   -- what holds of all pairs holds of a path and its entry
-  pub entry_all : (P : Path × K → Type 0) (ps : List (Path × K)) → All P ps → (p : Path) (e : K) → entry_under ps p ≡ Some e → P (p, e)
+  pub entry_all : (P : Path × K → Type 0) (ps : List (Path × K)) → AllByRecursion P ps → (p : Path) (e : K) → entry_under ps p ≡ Some e → P (p, e)
   entry_all P [] a p e h = absurd (none_some h)
   entry_all P (x ∷ xs) a p e h = go (same_path x.0 p) refl h (entry_all P xs a.1 p e)
     where

@@ -1,6 +1,6 @@
 -- A new directory set above an old one, and which directories a store uses. Assumes nothing.
 use Rattle.std.specs.Prelude.{◌≡◌, ℕ, ◌≤◌, Bool, true, false, cond, ◌||◌, List, [], ◌∷◌, length, ◌==◌, ◌≢◌}
-use Rattle.std.specs.List.{AllByRecursion as All}
+use Rattle.std.specs.List.{AllByRecursion}
 use Rattle.names.specs.declared.label.Label.{Label}
 use Rattle.names.specs.declared.path.Path.{Path}
 use Rattle.names.specs.Labels.{is_label}
@@ -35,7 +35,7 @@ Elsewhere d k = (k ≢ Directory d) × ((l : Label) → k ≢ Link d l)
 
 -- no pair lies in the directory, and none has it or a link into it for its content
 abbrev pub Unused : ℕ → List (Path × Recipe) → Type 0
-Unused d xs = All (λ x. (x.0.directory ≢ d) × Elsewhere d x.1.content) xs
+Unused d xs = AllByRecursion (λ x. (x.0.directory ≢ d) × Elsewhere d x.1.content) xs
 
 -- the entry that a growth posts: the old directory, with a stamp
 abbrev pub growth_entry : ℕ → ℕ → Recipe

@@ -1,6 +1,6 @@
 -- What a check that found no ground says of stores and bag, and the laws of recipe entries. Assumes nothing.
 use Rattle.std.proofs.Common.{◌≡◌, ℕ, Bool, true, false, cond, leb, List, [], ◌∷◌, length, replicate, is_ok, Some, None, Ok, Err, Option, sym, refl, ap, ◌∙◌, arith}
-use Rattle.std.specs.List.{AllByRecursion as All}
+use Rattle.std.specs.List.{AllByRecursion}
 use Rattle.std.proofs.lemmas.Bool.{both_ways, or_parts, and_parts, not-false, eqb-true, leb-true}
 use Rattle.entries.specs.declared.recipe.Recipe.{Recipe}
 use Rattle.entries.specs.Recipes.{key, later}
@@ -33,7 +33,7 @@ no_pairs : {A : Type 0} (xs : List A) → length xs ≡ 0 → xs ≡ []
 no_pairs [] e = refl
 no_pairs (x ∷ xs) e = absurd (omega (arith, e))
 
-all_empty : (ms : List (Meaning Recipe)) → some_store not_empty ms ≡ false → All (λ m. m.pairs ≡ []) ms
+all_empty : (ms : List (Meaning Recipe)) → some_store not_empty ms ≡ false → AllByRecursion (λ m. m.pairs ≡ []) ms
 unfolding count_of
 all_empty [] e = tt
 all_empty (m ∷ ms) e =
