@@ -86,7 +86,7 @@ shown_alone f p e h top = h ∙ ap (λ o. below_path (shown_entry f) o (unless_a
 pub shown_below : (f : Look) (p q : Path) (u : Option Recipe) (e : Recipe) → Some e ≡ unless_absent (f p) → Some q ≡ parent_of p → u ≡ shown_entry f q → below u (Some e) ≡ shown_entry f p
 shown_below f p q u e h up s = ap (below u) h ∙ ap (λ v. below v (unless_absent (f p))) s ∙ ap (λ o. below_path (shown_entry f) o (unless_absent (f p))) up ∙ sym (shown_rule f p)
 
--- what the rules show is what `shown-entry` gives, and no more
+-- what the rules show is what `shown_entry` gives, and no more
 pub shows_shown : (f : Look) (p : Path) (e : Recipe) → Shows f p e → shown_entry f p ≡ Some e
 shows_shown f p e (alone h live top) = shown_rule f p ∙ ap (λ o. below_path (shown_entry f) o (unless_absent (f p))) top ∙ ap unless_absent h ∙ present_some e live
 shows_shown f p e (under h live q up above s low) =
