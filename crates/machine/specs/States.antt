@@ -1,5 +1,5 @@
 -- The state of a ring in plain lists, the changes that calls are made of, and how a call is refused. Assumes nothing.
-use Rattle.std.specs.Prelude.{ℕ, ◌+◌, Bool, cond, not, List, [], ◌∷◌, get_or, Some, None, Ok, Err, Option, Result, ◌==◌, nat_lt, slice_index_or, slice_set}
+use Rattle.std.specs.Prelude.{ℕ, ◌+◌, Bool, cond, not, List, [], ◌∷◌, Some, None, Ok, Err, Option, Result, ◌==◌, nat_lt, slice_index_or, slice_set}
 use Rattle.names.specs.declared.path.Path.{Path}
 use Rattle.store.specs.Meaning.{Meaning, no_store, join_of}
 use Rattle.heads.specs.declared.Head.{Head}
@@ -21,11 +21,11 @@ store_of s c = slice_index_or s.stores c no_store
 
 -- the floor of a copy
 abbrev pub floor_of : {K : Type 0} → State K → ℕ → ℕ
-floor_of s c = (get_or s.heads c new_head).floor
+floor_of s c = (slice_index_or s.heads c new_head).floor
 
 -- the sweep stamp of a copy
 abbrev pub sweep_of : {K : Type 0} → State K → ℕ → ℕ
-sweep_of s c = (get_or s.heads c new_head).sweep
+sweep_of s c = (slice_index_or s.heads c new_head).sweep
 
 -- the copy that follows in the round: the next number, and 0 after the last
 abbrev pub next_copy : ℕ → ℕ → ℕ

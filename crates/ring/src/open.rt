@@ -1,4 +1,4 @@
-ghost use Rattle.std.specs.Prelude.{◌≡◌, ◌&&◌, leb, length, if◌then◌else◌, Some, None, nat_le};
+ghost use Rattle.std.specs.Prelude.{◌≡◌, ◌&&◌, length, if◌then◌else◌, Some, None, nat_le};
 ghost use Rattle.ring.specs.Built.{state_of};
 ghost use Rattle.ring.specs.Openings.{some_store, outside, bad_places, not_empty, open_check, checked_by, made_of};
 
@@ -20,7 +20,7 @@ fn is_outside(most: usize, number: usize) -> bool
 
 // How many stores there are, if 2 to 8.
 fn count_copies<K: Dated, B: Bank<K>>(stores: &B) -> Option<usize>
-    ensures { result ≡ (if leb 2 (length (B.Bank.meanings stores.now)) && nat_le (length (B.Bank.meanings stores.now)) 8 then Some (length (B.Bank.meanings stores.now)) else None) }
+    ensures { result ≡ (if nat_le 2 (length (B.Bank.meanings stores.now)) && nat_le (length (B.Bank.meanings stores.now)) 8 then Some (length (B.Bank.meanings stores.now)) else None) }
 {
     if !stores.has(1) || stores.has(8) {
         return None;

@@ -1,4 +1,4 @@
-ghost use Rattle.std.specs.Prelude.{◌≡◌, List, [], ◌∷◌, length, get_or, nat_lt, slice_index_or, slice_set};
+ghost use Rattle.std.specs.Prelude.{◌≡◌, List, [], ◌∷◌, length, nat_lt, slice_index_or, slice_set};
 ghost use Rattle.grounds.specs.Grounds.{by_number};
 ghost use Rattle.store.specs.Meaning.{Meaning, AllSound, no_store, count_of, place_of, path_at, entry_at, join_answer, join_of};
 
@@ -26,7 +26,7 @@ pub trait Bank<K: Joinable> {
 
     // How many pairs the store has room for in all.
     fn places(&self, number: usize) -> usize
-        ensures { result ≡ (get_or (meanings self.now) number no_store).places };
+        ensures { result ≡ (slice_index_or (meanings self.now) number no_store).places };
 
     // The place of a path in the store, if it is held there.
     fn find(&self, number: usize, path: &Path) -> Option<usize>
