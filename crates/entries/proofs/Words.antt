@@ -4,7 +4,7 @@ use Rattle.std.proofs.lemmas.List.{get_or-set_same}
 use Rattle.std.proofs.lemmas.Bool.{ltb-true, and_parts, eq-eqb, ne_eqb, both_ways}
 use Rattle.entries.specs.declared.rights.Rights.{Rights}
 use Rattle.entries.specs.Rights.{of_roles, greater, word, LatestWordDecides}
-use Rattle.entries.specs.Roles.{get_or_greater}
+use Rattle.entries.proofs.Roles.{get_or_greater}
 
 -- the number for a word is odd for a grant alone
 odd_word : (granted : Bool) (stamp : ℕ) → eqb (word granted stamp % 2) 1 ≡ granted

@@ -11,7 +11,7 @@ use Rattle.entries.specs.Recipes.{values_of, key, later, join_recipes}
 later_asym : (x y : List ℕ) → later x y ≡ true → later y x ≡ false
 later_asym [] [] h = refl
 later_asym [] (y ∷ ys) h = refl
-later_asym (x ∷ xs) [] h = sym (h) ∙ refl
+later_asym (x ∷ xs) [] h = sym h
 later_asym (x ∷ xs) (y ∷ ys) h = let ih = later_asym xs ys in grind (arith, nat_tests, ih)
 
 later_tied : (x y : List ℕ) → later x y ≡ false → later y x ≡ false → x ≡ y

@@ -105,19 +105,19 @@ letter_number fields = field_values (codes "letter" ∷ []) fields then (λ vs. 
 -- what a form's letter asks for with the fields after it
 abbrev pub asked_form : ℕ → List ℕ → Option Asked
 asked_form form fields =
-    cond (form == (byte "p")) (asked_post fields)
-    (cond (form == (byte "g")) (asked_grow fields)
-    (cond (form == (byte "l")) (asked_lookup fields)
-    (cond (form == (byte "m")) (asked_mail fields)
-    (cond (form == (byte "h")) (option_map hand (letter_number fields))
-    (cond (form == (byte "x")) (option_map lose (letter_number fields))
-    (cond (form == (byte "c")) (option_map collect (letter_number fields))
-    (cond (form == (byte "k")) (option_map confirm (letter_number fields))
-    (cond (form == (byte "b")) (asked_begin fields)
-    (cond (form == (byte "s")) (when_empty fields press)
-    (cond (form == (byte "u")) (when_empty fields spread)
-    (cond (form == (byte "f")) (when_empty fields close)
-    (cond (form == (byte "z")) (when_empty fields abandon) None))))))))))))
+    cond (form == byte "p") (asked_post fields)
+    (cond (form == byte "g") (asked_grow fields)
+    (cond (form == byte "l") (asked_lookup fields)
+    (cond (form == byte "m") (asked_mail fields)
+    (cond (form == byte "h") (option_map hand (letter_number fields))
+    (cond (form == byte "x") (option_map lose (letter_number fields))
+    (cond (form == byte "c") (option_map collect (letter_number fields))
+    (cond (form == byte "k") (option_map confirm (letter_number fields))
+    (cond (form == byte "b") (asked_begin fields)
+    (cond (form == byte "s") (when_empty fields press)
+    (cond (form == byte "u") (when_empty fields spread)
+    (cond (form == byte "f") (when_empty fields close)
+    (cond (form == byte "z") (when_empty fields abandon) None))))))))))))
 
 -- what follows the `op=` of a line: the form's letter, and then the fields
 abbrev pub asked_after : List ℕ → Option Asked

@@ -23,11 +23,11 @@ link_in bs = link_at (before_byte (byte ":") bs) bs
 -- the content of a letter and the text after it
 abbrev pub content_by : ℕ → List ℕ → Option Content
 content_by letter bs =
-    cond (letter == (byte "a")) (when_empty bs Absent)
-    (cond (letter == (byte "t")) (when_empty bs Node)
-    (cond (letter == (byte "n")) (option_map Number (read_number bs))
-    (cond (letter == (byte "d")) (option_map Directory (read_number bs))
-    (cond (letter == (byte "l")) (link_in bs) None))))
+    cond (letter == byte "a") (when_empty bs Absent)
+    (cond (letter == byte "t") (when_empty bs Node)
+    (cond (letter == byte "n") (option_map Number (read_number bs))
+    (cond (letter == byte "d") (option_map Directory (read_number bs))
+    (cond (letter == byte "l") (link_in bs) None))))
 
 -- the content that a text says; none where it is of none of the five forms
 abbrev pub content_in : List ℕ → Option Content

@@ -87,7 +87,7 @@ laden k t from to stamp place m at =
 abbrev pub mail_grounds : {K : Type 0} → State K → ℕ → ℕ → ℕ → Grounds
 mail_grounds s from to place =
     (no_copy s from || no_copy s to, 6)
-    ∷ ((from == to), 7)
+    ∷ (from == to, 7)
     ∷ (not (nat_lt place (count_of (store_of s from))), 10)
     ∷ (is_full s.bag, 17)
     ∷ []

@@ -1,5 +1,5 @@
 pub mod Labels
+pub mod Orders
 pub mod Paths
 pub mod Same
 pub mod Stamps
-pub mod Orders

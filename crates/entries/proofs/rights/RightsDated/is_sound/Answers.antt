@@ -1,5 +1,5 @@
 use Rattle.std.proofs.Common.{rules}
-use Rattle.entries.specs.Roles.{below_stop, below_more, below_all}
+use Rattle.entries.proofs.Roles.{below_stop, below_more, below_all}
 use Rattle.entries.proofs.rights.RightsDated.is_sound.Goals as goal
 
 pub returns-then-not-is_role_number : goal.returns-then-not-is_role_number

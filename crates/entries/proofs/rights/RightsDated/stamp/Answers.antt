@@ -1,5 +1,5 @@
 use Rattle.std.proofs.Common.{rules}
-use Rattle.entries.specs.Roles.{top_more, top_all}
+use Rattle.entries.proofs.Roles.{top_more, top_all}
 use Rattle.entries.proofs.rights.RightsDated.stamp.Goals as goal
 
 pub roles-preserved : goal.roles-preserved

@@ -1,7 +1,7 @@
 use Rattle.std.proofs.Common.{◌≡◌, length, sym, ap, ◌∙◌, arith, rules}
 use Rattle.std.proofs.lemmas.List.{ext_get_or}
 use Rattle.entries.specs.Rights.{of_roles, greater}
-use Rattle.entries.specs.Roles.{length_greater, get_or_greater}
+use Rattle.entries.proofs.Roles.{length_greater, get_or_greater}
 use Rattle.entries.proofs.rights.RightsJoinable.join.Goals as goal
 
 pub returns : goal.returns
