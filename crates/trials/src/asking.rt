@@ -2,6 +2,7 @@
 use crate::making::{RECIPES, label};
 use entries::{Content, Joinable, Recipe};
 use folding_log::{Log, LogSlot};
+use grounds::Ground;
 use letters::{Bag, Letter, Tag};
 use names::{Label, Path, Stamp};
 use reading::{Answer, Refusal};
@@ -73,17 +74,25 @@ pub(crate) fn rye_at(copy: usize, due: Came) -> Row {
     (Ask::Name(copy, label(b"rye")), due)
 }
 
-// What came of a call.
-fn of_call(outcome: Result<Got, Trouble>) -> Came {
-    match outcome {
+// What an answered call came to.
+pub(crate) fn of_answer(answer: Result<Got, Ground>) -> Came {
+    match answer {
         Ok(got) => match got {
             Got::Nothing => Came::Accepted,
             Got::More => Came::More,
             Got::Done => Came::Done,
             Got::Stamp(stamp) => Came::Stamped(stamp),
         },
+        Err(ground) => Came::Refused(ground.number()),
+    }
+}
+
+// What came of a call.
+fn of_call(outcome: Result<Got, Trouble>) -> Came {
+    match outcome {
+        Ok(got) => of_answer(Ok(got)),
         Err(trouble) => match trouble {
-            Trouble::Refused(ground) => Came::Refused(ground.number()),
+            Trouble::Refused(ground) => of_answer(Err(ground)),
             Trouble::NoMemory => Came::NoMemory,
         },
     }
@@ -98,7 +107,7 @@ fn of_letter(letter: Option<Letter<Recipe>>) -> Came {
 }
 
 // What a lookup answered.
-fn of_lookup(answer: Result<Answer, Refusal>) -> Came {
+pub(crate) fn of_lookup(answer: Result<Answer, Refusal>) -> Came {
     match answer {
         Ok(found) => match found.content {
             Content::Number(number) => Came::Number(number, found.steps),

@@ -12,3 +12,5 @@ mod making;
 mod rings;
 #[cfg(test)]
 mod stores;
+#[cfg(test)]
+mod whole_runs;

@@ -1,5 +1,6 @@
 // How the trials make names and entries.
-use entries::{Content, Recipe};
+use entries::{Content, Joinable, Recipe};
+use letters::{Letter, Tag};
 use names::{Label, Path, Stamp};
 
 // The directory of the paths, unless another is named.
@@ -43,5 +44,19 @@ pub(crate) fn number_at(stamp: Stamp, number: u32) -> Recipe {
     Recipe {
         stamp,
         content: Content::Number(number),
+    }
+}
+
+// Memory for a letter.
+pub(crate) fn blank_letter() -> Letter<Recipe> {
+    Letter {
+        tag: Tag::News,
+        sender: 0,
+        addressee: 0,
+        stamp: 0,
+        place: 0,
+        count: 0,
+        path: Path::NONE,
+        entry: Recipe::blank(),
     }
 }

@@ -1,27 +1,12 @@
 // Rings of two tables and a log in service.
 use crate::asking::{Ask, Came, Row, accepted, call, letter, on_a_ring, refused, rye_at};
-use crate::making::{label, number_at, path_in, rye, turns};
-use entries::{Content, Joinable, Recipe};
-use letters::{Letter, Tag};
-use names::Path;
+use crate::making::{blank_letter, label, number_at, path_in, rye, turns};
+use entries::{Content, Recipe};
+use letters::Tag;
 use service::Call;
 use std::alloc::AllocGlobal;
 use std::process::Abort;
 use std::test::*;
-
-// Memory for a letter.
-fn blank_letter() -> Letter<Recipe> {
-    Letter {
-        tag: Tag::News,
-        sender: 0,
-        addressee: 0,
-        stamp: 0,
-        place: 0,
-        count: 0,
-        path: Path::NONE,
-        entry: Recipe::blank(),
-    }
-}
 
 // Goes through a table with room for all its letters.
 fn with_room(rt: &(impl Abort + AllocGlobal), rows: &[Row]) -> Result<(), Fail> {

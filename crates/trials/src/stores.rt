@@ -4,7 +4,6 @@ use entries::{Joinable, Recipe};
 use folding_log::{Log, LogSlot};
 use names::{Path, Stamp};
 use std::process::Abort;
-use std::test::*;
 use store::{Readable, Store};
 use table::{Table, TableSlot};
 
@@ -44,7 +43,7 @@ fn stamp_under<S: Store<Recipe>>(store: &S, path: &Path) -> Stamp {
 }
 
 // Joins one after another, each compared with what is due.
-fn join_each<S: Store<Recipe>>(rt: &impl Abort, store: &mut S, joins: &[Join]) -> Result<(), Fail> {
+fn join_each<S: Store<Recipe>>(rt: &impl Abort, store: &mut S, joins: &[Join]) {
     'joins: for join in joins {
         let came = match store.join(join.path, number_at(join.stamp, 640)) {
             Ok(()) => Ok(stamp_under(store, &join.path)),
@@ -52,12 +51,11 @@ fn join_each<S: Store<Recipe>>(rt: &impl Abort, store: &mut S, joins: &[Join]) -
         };
         assert_eq!(rt; came, join.due);
     }
-    Ok(())
 }
 
 // One place, for rye; an older entry that comes last changes nothing.
 #[test]
-fn table_of_one_slot_refuses_a_second_path(rt: HostRuntime) -> Result<(), Fail> {
+fn table_of_one_slot_refuses_a_second_path(rt: HostRuntime) {
     let mut slots = [TableSlot {
         path: Path::NONE,
         entry: Recipe::blank(),
@@ -71,12 +69,12 @@ fn table_of_one_slot_refuses_a_second_path(rt: HostRuntime) -> Result<(), Fail> 
             leaves(rye(), 1536, 1536),
             leaves(rye(), 1280, 1536),
         ],
-    )
+    );
 }
 
 // A fold that left only the latest entry would answer 1536 at last.
 #[test]
-fn log_of_two_slots_keeps_the_join_of_all(rt: HostRuntime) -> Result<(), Fail> {
+fn log_of_two_slots_keeps_the_join_of_all(rt: HostRuntime) {
     let mut slots = [LogSlot {
         path: Path::NONE,
         entry: Recipe::blank(),
@@ -92,12 +90,12 @@ fn log_of_two_slots_keeps_the_join_of_all(rt: HostRuntime) -> Result<(), Fail> {
             refused(turns(), 2048, 16),
             leaves(rye(), 1024, 1792),
         ],
-    )
+    );
 }
 
 // When the slots are used up, the latest entry of neither path is its greatest.
 #[test]
-fn log_of_four_slots_keeps_the_join_for_each_path(rt: HostRuntime) -> Result<(), Fail> {
+fn log_of_four_slots_keeps_the_join_for_each_path(rt: HostRuntime) {
     let mut slots = [LogSlot {
         path: Path::NONE,
         entry: Recipe::blank(),
@@ -114,5 +112,5 @@ fn log_of_four_slots_keeps_the_join_for_each_path(rt: HostRuntime) -> Result<(),
             leaves(rye(), 1024, 1280),
             leaves(turns(), 1024, 1536),
         ],
-    )
+    );
 }
