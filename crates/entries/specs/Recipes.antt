@@ -1,5 +1,8 @@
 -- A recipe entry: what its content says, the key that its join compares, and its soundness. Assumes nothing.
 use Rattle.std.specs.Prelude.{ℕ, ◌^◌, Bool, true, false, cond, ◌&&◌, List, [], ◌∷◌, ◌==◌, nat_lt}
+use Rattle.std.specs.declared.cmp.Ordering.{Ordering}
+use Rattle.std.specs.Ordering.{nat_cmp}
+use Rattle.std.specs.Cmp.Lexicographic.{slice_cmp}
 use Rattle.entries.specs.declared.recipe.Content.{Content}
 use Rattle.entries.specs.declared.recipe.Content.TheVariants.{Absent, Node, Number, Directory, Link}
 use Rattle.entries.specs.declared.recipe.Recipe.{Recipe}
@@ -23,6 +26,10 @@ later [] [] = false
 later [] (y ∷ ys) = true
 later (x ∷ xs) [] = false
 later (x ∷ xs) (y ∷ ys) = cond (x == y) (later xs ys) (nat_lt x y)
+
+-- how two entries compare: by their keys, number by number
+abbrev pub order_of_entries : Recipe → Recipe → Ordering
+order_of_entries a b = slice_cmp nat_cmp (key a) (key b)
 
 -- the blank entry: absent, stamped 0
 abbrev pub blank_recipe : Recipe

@@ -7,5 +7,5 @@ mod recipe;
 mod rights;
 
 pub use kind::{Dated, Joinable};
-pub use recipe::{Content, Recipe};
+pub use recipe::{Content, Recipe, recipes_are_compared_by_their_keys};
 pub use rights::{Rights, the_latest_word_on_a_role_decides};

@@ -1,14 +1,15 @@
 ghost use Rattle.std.specs.Prelude.{◌≡◌};
-ghost use Rattle.entries.specs.Recipes.{values_of, key, later, blank_recipe, join_recipes, stamp_of, sound_recipe};
+ghost use Rattle.entries.specs.Recipes.{values_of, order_of_entries, blank_recipe, join_recipes, stamp_of, sound_recipe};
 ghost use Rattle.entries.specs.Keys.{recipes_commute, recipes_associate};
 ghost use Rattle.std.proofs.Common.{rules};
+ghost use Rattle.entries.specs.declared.recipe.Recipe.{Recipe as Entry};
 
 use crate::kind::{Dated, Joinable};
 use names::{Label, Stamp};
 use std::fmt;
 
 // What an entry says of its path.
-#[derive(Clone, Copy)]
+#[derive(Clone, Copy, Debug, PartialEq, Eq, PartialOrd, Ord)]
 pub enum Content {
     // withdrawn: a tombstone, which is kept so that an older entry does not come back
     Absent,
@@ -23,7 +24,7 @@ pub enum Content {
 }
 
 impl Content {
-    // The mark that tells the five contents apart.
+    // The mark that tells the five contents apart, a number since the rules order contents by it.
     pub fn mark(&self) -> u8
         ensures { result ≡ (values_of self.now).0 }
     {
@@ -75,29 +76,17 @@ impl fmt::Display for Content {
 }
 
 // An entry of the recipe directories.
-#[derive(Clone, Copy)]
+#[derive(Clone, Copy, Debug, PartialEq, Eq, PartialOrd, Ord)]
 pub struct Recipe {
     pub stamp: Stamp,
     pub content: Content,
 }
 
-impl Recipe {
-    // Whether the other is the greater, by stamp, then mark, then number or directory, then label.
-    fn is_below(&self, other: &Recipe) -> bool
-        ensures { result ≡ later (key self.now) (key other.now) }
-    {
-        let (a, b) = (&self.content, &other.content);
-        if self.stamp != other.stamp {
-            self.stamp < other.stamp
-        } else if a.mark() != b.mark() {
-            a.mark() < b.mark()
-        } else if a.number() != b.number() {
-            a.number() < b.number()
-        } else {
-            a.label() < b.label()
-        }
-    }
-}
+// Of two entries the one with the later stamp is the greater; of two with one stamp, the one with the greater content: by
+// its mark, then its number or directory, then its label.
+pub fn recipes_are_compared_by_their_keys()
+    ensures { (a b : Entry) → ⟦<Recipe as Ord>⟧.cmp a b ≡ order_of_entries a b }
+{}
 
 impl Joinable for Recipe {
     ghost empty = { blank_recipe };
@@ -118,7 +107,7 @@ impl Joinable for Recipe {
     }
 
     fn join(self, other: Recipe) -> Recipe {
-        if self.is_below(&other) { other } else { self }
+        self.max(other)
     }
 }
 

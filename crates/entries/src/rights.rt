@@ -5,9 +5,10 @@ ghost use Rattle.entries.specs.Roles.{greater_idem, greater_comm, greater_assoc}
 
 use crate::kind::{Dated, Joinable};
 use names::Stamp;
+use std::array;
 
 // What was said of each of the roles 0 to 7, as a number: twice the stamp, and one more for a grant; 0 where nothing was.
-#[derive(Clone, Copy)]
+#[derive(Clone, Copy, Debug, PartialEq, Eq)]
 pub struct Rights {
     pub roles: [u64; 8],
 }
@@ -49,22 +50,11 @@ impl Rights {
     }
 }
 
-// The greater of two numbers: of what was said of one role, the last word.
-fn greater(a: u64, b: u64) -> u64
-    ensures { result ≡ max a b }
-{
-    if a < b { b } else { a }
-}
-
-// The greater of two numbers for each role.
+// The greater of two numbers for each role: of what was said of it, the last word.
 fn greater_of_each(a: [u64; 8], b: [u64; 8]) -> [u64; 8]
     ensures { (k : ℕ) → k < 8 → slice_index result k ≡ max (slice_index a k) (slice_index b k) }
 {
-    let mut roles = [0; 8];
-    'roles: for i in 0..8 {
-        roles[i] = greater(a[i], b[i]);
-    }
-    roles
+    array::from_fn(|i| a[i].max(b[i]))
 }
 
 // Whether a sound entry may have the number for a role.
@@ -109,9 +99,9 @@ impl Dated for Rights {
     ghost formed = { sound_rights };
 
     fn stamp(&self) -> Stamp {
-        let mut greatest = 0;
+        let mut greatest: u64 = 0;
         'roles: for role in self.roles {
-            greatest = greater(greatest, role);
+            greatest = greatest.max(role);
         }
         stamp_in(greatest)
     }

@@ -4,9 +4,10 @@
 ghost use Rattle.std.specs.Prelude.{◌≡◌};
 ghost use Rattle.grounds.specs.Grounds.{ground_number};
 
+use std::error::Error;
 use std::fmt;
 
-#[derive(Clone, Copy)]
+#[derive(Clone, Copy, Debug, PartialEq, Eq)]
 pub enum Ground {
     BadLine = 1,
     NoSuchSweep = 2,
@@ -31,7 +32,7 @@ pub enum Ground {
 }
 
 impl Ground {
-    // The ground's number in the table.
+    // The ground's number in the table, by which the rules and every report name it.
     pub fn number(self) -> u8
         ensures { result ≡ ground_number self }
     {
@@ -42,31 +43,30 @@ impl Ground {
 // The ground in words, for a person who reads a note or a log.
 impl fmt::Display for Ground {
     fn fmt<W: fmt::Write>(&self, f: &mut fmt::Formatter<W>) -> fmt::Result {
-        match self {
-            Ground::BadLine => f.write_str("the line is not of the form"),
-            Ground::NoSuchSweep => f.write_str(
-                "no sweep is held in the state needed, or one is held already",
-            ),
-            Ground::CopyCount => f.write_str("a ring has 2 to 8 copies"),
-            Ground::PlacesOutOfRange => f.write_str(
+        f.write_str(match self {
+            Ground::BadLine => "the line is not of the form",
+            Ground::NoSuchSweep => "no sweep is held in the state needed, or one is held already",
+            Ground::CopyCount => "a ring has 2 to 8 copies",
+            Ground::PlacesOutOfRange =>
                 "the places of a store or of the bag are outside their limits",
-            ),
-            Ground::StoreNotEmpty => f.write_str("a store given to a new ring holds a pair"),
-            Ground::NoSuchCopy => f.write_str("the ring has no such copy"),
-            Ground::SameCopy => f.write_str("a copy does not mail to itself"),
-            Ground::NoSuchLetter => f.write_str("the bag has no such letter"),
-            Ground::NotAwaited => f.write_str("the letter is not the awaited one"),
-            Ground::PlaceNotHeld => f.write_str("the place is not held"),
-            Ground::NotSound => f.write_str("a path, name, label or entry is not sound"),
-            Ground::NotGranted => f.write_str("the role is not granted"),
-            Ground::WrongServer => f.write_str("the stamp is not of this copy"),
-            Ground::StampTooLow => f.write_str("the stamp is too low for the copy's floor"),
-            Ground::DirectoryInUse => f.write_str("the new directory is the old one or is used"),
-            Ground::StoreFull => f.write_str("the store is full for a new path"),
-            Ground::BagFull => f.write_str("the bag is full"),
-            Ground::NothingShown => f.write_str("nothing is shown under the name"),
-            Ground::TooManyLinks => f.write_str("a ninth link would be followed"),
-            Ground::MemoryTooShort => f.write_str("the memory is shorter than the listing"),
-        }
+            Ground::StoreNotEmpty => "a store given to a new ring holds a pair",
+            Ground::NoSuchCopy => "the ring has no such copy",
+            Ground::SameCopy => "a copy does not mail to itself",
+            Ground::NoSuchLetter => "the bag has no such letter",
+            Ground::NotAwaited => "the letter is not the awaited one",
+            Ground::PlaceNotHeld => "the place is not held",
+            Ground::NotSound => "a path, name, label or entry is not sound",
+            Ground::NotGranted => "the role is not granted",
+            Ground::WrongServer => "the stamp is not of this copy",
+            Ground::StampTooLow => "the stamp is too low for the copy's floor",
+            Ground::DirectoryInUse => "the new directory is the old one or is used",
+            Ground::StoreFull => "the store is full for a new path",
+            Ground::BagFull => "the bag is full",
+            Ground::NothingShown => "nothing is shown under the name",
+            Ground::TooManyLinks => "a ninth link would be followed",
+            Ground::MemoryTooShort => "the memory is shorter than the listing",
+        })
     }
 }
+
+impl Error for Ground {}

@@ -8,7 +8,7 @@ use names::Stamp;
 
 // Two high-water marks of a copy. Below its floor it accepts no update any more; its sweep stamp is that of the
 // latest sweep that was spread to it.
-#[derive(Clone, Copy)]
+#[derive(Clone, Copy, Debug, Default, PartialEq, Eq)]
 pub struct Head {
     pub floor: Stamp,
     pub sweep: Stamp,
@@ -19,18 +19,14 @@ impl Head {
     pub fn lift_floor(&mut self, stamp: Stamp)
         ensures { self.new ≡ lift_floor stamp self.old }
     {
-        if self.floor < stamp {
-            self.floor = stamp;
-        }
+        self.floor = self.floor.max(stamp);
     }
 
     // Lifts the sweep stamp to the stamp if it is lower.
     pub fn lift_sweep(&mut self, stamp: Stamp)
         ensures { self.new ≡ lift_sweep stamp self.old }
     {
-        if self.sweep < stamp {
-            self.sweep = stamp;
-        }
+        self.sweep = self.sweep.max(stamp);
     }
 }
 
@@ -47,7 +43,7 @@ impl Heads {
         ensures { result.table ≡ replicate 8 new_head }
     {
         Heads {
-            table: [Head { floor: 0, sweep: 0 }; 8],
+            table: [Head::default(); 8],
         }
     }
 
@@ -55,11 +51,7 @@ impl Heads {
     pub fn at(&self, copy: usize) -> Head
         ensures { result ≡ slice_index_or self.now.table copy new_head }
     {
-        if copy < 8 {
-            self.table[copy]
-        } else {
-            Head { floor: 0, sweep: 0 }
-        }
+        self.table.get(copy).copied().unwrap_or_default()
     }
 
     // Lifts the floor of the copy; a number past the table changes nothing.

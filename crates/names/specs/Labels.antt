@@ -1,5 +1,7 @@
 -- What a label is: as the bytes of its text, and as the number that it is kept as. Assumes nothing.
 use Rattle.std.specs.Prelude.{ℕ, zero, suc, ◌+◌, ◌*◌, ◌/◌, ◌%◌, Bool, true, false, cond, ◌&&◌, ◌||◌, List, [], ◌∷◌, length, Some, None, codes, Option, ◌==◌, nat_le, nat_lt}
+use Rattle.std.specs.List.{list_all}
+use Rattle.std.specs.Option.{unwrap_or}
 use Rattle.names.specs.declared.label.Label.{Label}
 
 -- the label that is kept as a number
@@ -16,8 +18,7 @@ legal b = label_byte b
 
 -- each byte is legal
 abbrev pub all_legal : List ℕ → Bool
-all_legal [] = true
-all_legal (b ∷ bs) = legal b && all_legal bs
+all_legal bs = list_all legal bs
 
 -- 1 to 8
 abbrev pub label_length : ℕ → Bool
@@ -36,6 +37,10 @@ packed n (suc k) (b ∷ bs) = packed (n * 256 + b) k bs
 -- the label that a text reads to
 abbrev pub read_label : List ℕ → Option Label
 read_label bs = cond (label_text bs) (Some (label (packed 0 8 bs))) None
+
+-- the label that a text reads to, and no label where it reads to none
+abbrev pub label_or_none : List ℕ → Label
+label_or_none bs = unwrap_or (read_label bs) (label 0)
 
 -- a label was read, and it is the one that is kept as a number
 abbrev pub is_read : Option Label → ℕ → Bool

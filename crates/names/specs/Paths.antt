@@ -10,6 +10,10 @@ use Rattle.names.specs.Labels.{label, is_label, shown_label}
 abbrev pub no_path : Path
 no_path = record { directory = 0; first = label 0; second = label 0; third = label 0 }
 
+-- the path of one label
+abbrev pub one_label : ℕ → Label → Path
+one_label directory l = record { directory = directory; first = l; second = label 0; third = label 0 }
+
 -- one to three labels, the unused ones last and 0
 abbrev pub sound_path : Path → Bool
 sound_path p =

@@ -1,15 +1,14 @@
-ghost use Rattle.std.specs.Prelude.{◌≡◌, ℕ, true, ◌↔◌, List, IfOk, Some, ◌==◌};
+ghost use Rattle.std.specs.List.{list_all};
+ghost use Rattle.std.specs.Prelude.{◌≡◌, ℕ, ◌-◌, ◌≤◌, true, ◌↔◌, List, ◌++◌, length, replicate, position, IfOk, Some, ◌==◌};
 ghost use Rattle.names.specs.declared.label.Label.{Label as Kept};
-ghost use Rattle.names.specs.Labels.{label_byte, all_legal, label_length, label_text, read_label, is_read, is_label, until_zero, text_of, shown_label};
-ghost use Rattle.std.specs.Cmp.Rules.{comparing};
-ghost use Rattle.std.proofs.Common.{rules};
+ghost use Rattle.names.specs.Labels.{label_byte, label_length, label_text, read_label, label_or_none, is_read, is_label, until_zero, text_of, shown_label};
 
 use std::alloc::{AllocError, Global};
 use std::{fmt, str};
 
 // A label, as the number that it is kept as: its bytes, the first highest, and zeros after them.
 // A value may hold any number, also one that no label has; `is_sound` tells. 0 stands for no label.
-#[derive(Clone, Copy)]
+#[derive(Clone, Copy, Debug, PartialEq, Eq, PartialOrd, Ord)]
 pub struct Label {
     pub number: u64,
 }
@@ -23,14 +22,9 @@ fn is_label_byte(byte: u8) -> bool
 
 // Whether a label may have each of the bytes.
 fn are_label_bytes(text: &[u8]) -> bool
-    ensures { result ≡ all_legal text.now }
+    ensures { result ≡ list_all label_byte text.now }
 {
-    'bytes: for byte in text {
-        if !is_label_byte(*byte) {
-            return false;
-        }
-    }
-    true
+    text.iter().all(|&byte| is_label_byte(byte))
 }
 
 // Whether a label may have so many bytes: 1 to 8.
@@ -47,16 +41,32 @@ fn is_label_text(text: &[u8]) -> bool
     is_label_length(text.len()) && are_label_bytes(text)
 }
 
+// The bytes of a text, and zeros after them: eight in all.
+fn with_zeros(text: &[u8]) -> [u8; 8]
+    requires { length text.now ≤ 8 }
+    ensures { result ≡ text.now ++ replicate (8 - length text.now) 0 }
+{
+    let mut bytes = [0; 8];
+    bytes[..text.len()].copy_from_slice(text);
+    bytes
+}
+
+// Where the first zero stands among the bytes, if there is one: the library's call by a name, which the next function's
+// proof cites.
+fn first_zero(bytes: &[u8]) -> Option<usize>
+    ensures { result ≡ position (λ b. b == 0) bytes.now }
+{
+    bytes.iter().position(|&byte| byte == 0)
+}
+
 // The bytes before the first zero.
 fn before_zero(bytes: &[u8]) -> &[u8]
     ensures { result.now ≡ until_zero bytes.now }
 {
-    'bytes: for (i, byte) in bytes.iter().enumerate() {
-        if *byte == 0 {
-            return &bytes[0..i];
-        }
+    match first_zero(bytes) {
+        Some(end) => &bytes[..end],
+        None => bytes,
     }
-    bytes
 }
 
 impl Label {
@@ -72,12 +82,16 @@ impl Label {
         if !is_label_text(text) {
             return None;
         }
-        let mut number: u64 = 0;
-        'bytes: for i in 0..8 {
-            let byte = if i < text.len() { text[i] } else { 0 };
-            number = number * 256 + byte as u64;
-        }
-        Some(Label { number })
+        Some(Label {
+            number: u64::from_be_bytes(with_zeros(text)),
+        })
+    }
+
+    // The label with that text, or no label for a text that is none's.
+    pub fn or_none(text: &[u8]) -> Label
+        ensures { result ≡ label_or_none text.now }
+    {
+        Label::read(text).unwrap_or(Label::NONE)
     }
 
     // The label's text, as bytes; of a number that is no label, its bytes before the first zero.
@@ -92,10 +106,7 @@ impl Label {
     fn is_read_from(&self, text: &[u8]) -> bool
         ensures { result ≡ is_read (read_label text.now) self.now.number }
     {
-        match Label::read(text) {
-            Some(label) => label.number == self.number,
-            None => false,
-        }
+        Label::read(text).is_some_and(|label| label.number == self.number)
     }
 
     // Whether the number is that of a label, which is so exactly when some text reads to it.
@@ -108,16 +119,10 @@ impl Label {
     }
 }
 
-// Labels are equal when their numbers are.
-impl PartialEq for Label {
-    ghost eq = { λ a b. (a.number == b.number) };
-
-    ghost laws = { Prim.search (comparing, rules) };
-
-    fn eq(&self, other: &Label) -> bool {
-        self.number == other.number
-    }
-}
+// Labels are equal exactly when their numbers are.
+pub fn labels_are_equal_when_their_numbers_are()
+    ensures { (a b : Kept) → ⟦<Label as PartialEq>⟧.eq a b ≡ (a.number == b.number) }
+{}
 
 // A label is shown as its text, and a number that is no label as `?`.
 impl fmt::Display for Label {

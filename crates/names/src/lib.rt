@@ -6,6 +6,6 @@ mod label;
 mod path;
 mod stamp;
 
-pub use label::Label;
-pub use path::Path;
+pub use label::{Label, labels_are_equal_when_their_numbers_are};
+pub use path::{Path, paths_are_compared_part_by_part};
 pub use stamp::{Stamp, server_of, stamp_at};

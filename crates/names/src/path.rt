@@ -1,21 +1,15 @@
-ghost use Rattle.std.specs.Prelude.{◌≡◌, Some, refl};
+ghost use Rattle.std.specs.Prelude.{◌≡◌, Some};
 ghost use Rattle.std.specs.Fmt.{WritesOnOk};
 ghost use Rattle.names.specs.declared.path.Path.{Path as Whole};
-ghost use Rattle.names.specs.Paths.{sound_path, same_path, order_of, parent_of, Above, shown_after, shown_path};
-ghost use Rattle.names.specs.Orders.{order_total};
-ghost use Rattle.std.specs.Ordering.{nat_cmp};
-ghost use Rattle.std.specs.Cmp.Rules.{comparing};
-ghost use Rattle.std.proofs.Common.{rules};
-ghost use Rattle.std.specs.Cmp as Keys;
-ghost use Rattle.std.specs.Cmp.{partial_order_from_agreeing_total};
+ghost use Rattle.names.specs.Paths.{sound_path, same_path, order_of, one_label, parent_of, Above, shown_after, shown_path};
+ghost use Rattle.std.specs.Cmp.{IsTotalOrder};
 
 use crate::label::Label;
-use std::cmp::Ordering;
 use std::fmt;
 
 // A directory and one to three labels; a label that is not used is 0.
 // A value may hold anything in its fields; `is_sound` tells whether it is a path.
-#[derive(Clone, Copy)]
+#[derive(Clone, Copy, Debug, PartialEq, Eq, PartialOrd, Ord)]
 pub struct Path {
     pub directory: u32,
     pub first: Label,
@@ -27,10 +21,21 @@ impl Path {
     // Directory 0 with no label: what a store gives for a place that it does not hold.
     pub const NONE: Path = Path {
         directory: 0,
-        first: Label { number: 0 },
-        second: Label { number: 0 },
-        third: Label { number: 0 },
+        first: Label::NONE,
+        second: Label::NONE,
+        third: Label::NONE,
     };
+
+    // The path of one label.
+    pub fn of_label(directory: u32, label: Label) -> Path
+        ensures { result ≡ one_label directory label }
+    {
+        Path {
+            directory,
+            first: label,
+            ..Path::NONE
+        }
+    }
 
     // Whether the labels are labels, and the ones not used stand last.
     pub fn is_sound(&self) -> bool
@@ -71,72 +76,14 @@ impl Path {
     }
 }
 
-// How two numbers compare.
-fn rank(a: u64, b: u64) -> Ordering
-    ensures { result ≡ nat_cmp a b }
-{
-    if a < b {
-        Ordering::Less
-    } else if a == b {
-        Ordering::Equal
-    } else {
-        Ordering::Greater
-    }
-}
-
-// How two paths compare: by directory, then by the first label in which they differ.
-fn order(p: &Path, q: &Path) -> Ordering
-    ensures { result ≡ order_of p.now q.now }
-{
-    let by_directory = rank(p.directory as u64, q.directory as u64);
-    let by_first = rank(p.first.number, q.first.number);
-    let by_second = rank(p.second.number, q.second.number);
-    let by_third = rank(p.third.number, q.third.number);
-    by_directory.then(by_first.then(by_second.then(by_third)))
-}
-
-// Paths are equal when their directories and all their labels are.
-impl PartialEq for Path {
-    ghost eq = { λ p q. same_path p q };
-
-    ghost laws = { Keys.partial_equiv_from_equiv (Prim.search (comparing, rules)) };
-
-    fn eq(&self, other: &Path) -> bool {
-        self.directory == other.directory
-            && self.first.number == other.first.number
-            && self.second.number == other.second.number
-            && self.third.number == other.third.number
-    }
-}
-
-impl Eq for Path {
-    ghost laws = { Prim.search (comparing, rules) };
-}
-
-// Paths are ordered by directory, then by each label as a number.
-impl PartialOrd for Path {
-    ghost partial_cmp = { λ p q. Some (order_of p q) };
-
-    ghost laws = { partial_order_from_agreeing_total (λ p q. order_of p q) order_total (λ _ _. refl) (Prim.search (comparing, rules)) };
-
-    fn partial_cmp(&self, other: &Path) -> Option<Ordering> {
-        Some(order(self, other))
-    }
-}
-
-impl Ord for Path {
-    ghost cmp = { λ p q. order_of p q };
-
-    ghost total = { order_total };
-
-    ghost matches_partial_cmp = { Prim.search (comparing, rules) };
-
-    ghost matches_eq = { Prim.search (comparing, rules) };
-
-    fn cmp(&self, other: &Path) -> Ordering {
-        order(self, other)
-    }
-}
+// Paths are equal exactly when their directories and all their labels are, and are totally ordered by directory, then by
+// each label as a number.
+pub fn paths_are_compared_part_by_part()
+    ensures equal { (p q : Whole) → ⟦<Path as PartialEq>⟧.eq p q ≡ same_path p q }
+    ensures ordered { (p q : Whole) → ⟦<Path as Ord>⟧.cmp p q ≡ order_of p q }
+    ensures partly { (p q : Whole) → ⟦<Path as PartialOrd>⟧.partial_cmp p q ≡ Some (order_of p q) }
+    ensures total { IsTotalOrder order_of }
+{}
 
 // Writes a slash and the label, or nothing where the label is not used.
 fn show_after<W: fmt::Write>(label: Label, f: &mut fmt::Formatter<W>) -> fmt::Result

@@ -10,7 +10,7 @@ pub fn stamp_at(time: u32, server: u8) -> Stamp
     ensures server { server_of result ≡ server }
     ensures ordered { ByTime time result }
 {
-    time as u64 * 256 + server as u64
+    u64::from(time) * 256 + u64::from(server)
 }
 
 // The server that made the stamp.
