@@ -1,20 +1,21 @@
 -- What each call of a log rests on: one more slot, and the slots so far. Assumes nothing.
 use Rattle.std.proofs.Common.{◌≡◌, ℕ, zero, suc, ◌+◌, ◌/◌, ◌<◌, ◌≤◌, Bool, true, false, cond, ◌||◌, eqb, ◌⊎◌, List, [], ◌∷◌, ◌++◌, map, length, get_or, take, drop, is_some, Some, None, Option, unwrap_or, sym, refl, ap, ◌∙◌, subst, inl, inr, ⊎_elim, arith}
-use Rattle.std.proofs.lemmas.Bool.{cond-true, cond-false, both_ways, and_parts, eqb-false, cases_lt}
-use Rattle.std.proofs.lemmas.List.{take-append-drop, take-take, get_or-take, length_push, map-append, length-take-le}
+use Rattle.std.proofs.Math.Seq.{take-length}
+use Rattle.std.proofs.lemmas.Bool.{cond-true, cond-false, both_ways, and_parts, or_right, eqb-true, eqb-false, eq-eqb, cases_lt}
+use Rattle.std.proofs.lemmas.List.{take-append-drop, take_more, get_or_past, length_push, map_push, map-append}
+use Rattle.std.specs.List.{filter, find, fold}
 use Rattle.std.specs.Option.{option_map}
 use Rattle.names.specs.declared.path.Path.{Path}
 use Rattle.names.specs.Paths.{same_path, no_path}
 use Rattle.names.specs.Same.{same_is, same_refl}
 use Rattle.store.specs.Meaning.{Meaning, count_of, place_of, full_for, paths_of, path_in, entry_in, among, distinct, place_in, join_pairs}
 use Rattle.store.specs.Laws.{onto}
-use Rattle.store.specs.Joins.{length_paths, join_paths}
-use Rattle.store.proofs.Places.{none_is, among_is, among_here, among_none, place_own, place_push, place_stands}
-use Rattle.store.proofs.Pairs.{path_past, held_among, new_among, held_not_full, new_full}
-use Rattle.store.proofs.Views.{view_length, view_path, view_more}
+use Rattle.store.specs.Joins.{length_paths, join_paths, among_push}
+use Rattle.store.proofs.Places.{among_is, among_here, place_own, place_push, place_stands}
+use Rattle.store.proofs.Pairs.{held_among, new_among, held_not_full, new_full}
 use Rattle.folding_log.specs.declared.Log.{Log}
 use Rattle.folding_log.specs.declared.slot.LogSlot.{LogSlot}
-use Rattle.folding_log.specs.Slots.{pair_of, joined_to, log_pairs, with_path, with_paths, arrivals, is_place, placed, place_under, seat}
+use Rattle.folding_log.specs.Slots.{pair_of, joined_to, log_pairs, with_path, with_paths, arrivals, is_place, placed, place_under, path_under, joined_under, blank_slot, seat}
 use Rattle.folding_log.specs.Logs.{log_meaning, log_sound, joined_paths, joined_distinct, pairs_length}
 use Rattle.folding_log.proofs.Arrivals.{among_with_paths, with_paths_append, place_with_paths}
 use Rattle.folding_log.proofs.Numbers.{placed_at, joined_append, paths_append}
@@ -140,109 +141,164 @@ module _ {K : Type 0} (m : Meaning K) (p : Path) where
 
 -- the same of a log
 module _ {K : Type 0} (join : K → K → K) (t : Log K) (p : Path) (o : Option ℕ) (f : o ≡ place_of (log_meaning join t) p) where
-  held_is : t.held ≡ length (log_pairs join t.used t.slots.now)
-  held_is = t.counted ∙ sym (pairs_length join t.used t.slots.now)
+  held_is : t.held ≡ length (log_pairs join t.slots.items)
+  held_is = t.counted ∙ sym (pairs_length join t.slots.items)
 
-  pub log_seated : (k n : ℕ) → ◌≡◌ {A = Option (ℕ × ℕ)} (Some (k, n)) (seat o t.held (length t.slots.now / 2)) → Seated (log_meaning join t) p k n
-  log_seated k n e = seated (log_meaning join t) p o k n f (log_sound join t).within (e ∙ ap (λ h. seat o h (length t.slots.now / 2)) held_is)
+  pub log_seated : (k n : ℕ) → ◌≡◌ {A = Option (ℕ × ℕ)} (Some (k, n)) (seat o t.held (t.slots.places / 2)) → Seated (log_meaning join t) p k n
+  log_seated k n e = seated (log_meaning join t) p o k n f (log_sound join t).within (e ∙ ap (λ h. seat o h (t.slots.places / 2)) held_is)
 
-  pub log_unseated : None ≡ seat o t.held (length t.slots.now / 2) → full_for (log_meaning join t) p ≡ true
-  log_unseated e = unseated (log_meaning join t) p o f (e ∙ ap (λ h. seat o h (length t.slots.now / 2)) held_is)
+  pub log_unseated : None ≡ seat o t.held (t.slots.places / 2) → full_for (log_meaning join t) p ≡ true
+  log_unseated e = unseated (log_meaning join t) p o f (e ∙ ap (λ h. seat o h (t.slots.places / 2)) held_is)
 
 -- slots that have the places of their paths among qs
-under_is : {K : Type 0} (qs : List Path) (ss : List (LogSlot K)) (p : Path) → placed qs ss ≡ true → place_under ss p ≡ cond (among (paths_of (map pair_of ss)) p) (place_in qs p) None
-under_is qs [] p num = refl
-under_is qs (s ∷ ss) p num = go (under_is qs ss p (and_parts (is_place (place_in qs s.path) s.place) (placed qs ss) num).1) (same_path s.path p) refl
+module _ {K : Type 0} (qs : List Path) where
+  under_is : (ss : List (LogSlot K)) (p : Path) → placed qs ss ≡ true → place_under ss p ≡ cond (among (paths_of (map pair_of ss)) p) (place_in qs p) None
+  under_is [] p num = refl
+  under_is (s ∷ ss) p num = go (under_is ss p (and_parts (is_place (place_in qs s.path) s.place) (placed qs ss) num).1) (same_path s.path p) refl
+    where
+      go : place_under ss p ≡ cond (among (paths_of (map pair_of ss)) p) (place_in qs p) None → (b : Bool) → same_path s.path p ≡ b → option_map (λ (x : LogSlot K). x.place) (cond b (Some s) (find (λ (x : LogSlot K). same_path x.path p) ss)) ≡ cond (b || among (paths_of (map pair_of ss)) p) (place_in qs p) None
+      go ih true h = sym (ap (place_in qs) (sym (same_is _ p h)) ∙ placed_at qs (s ∷ ss) 0 s num (omega arith))
+      go ih false h = ih
+
+  -- the path of a slot with a place is the one that stands there among qs
+  path_some : (ss : List (LogSlot K)) (k : ℕ) (q : Path) → placed qs ss ≡ true → path_under ss k ≡ Some q → q ≡ get_or qs k no_path
+  path_some [] k q num e = absurd (both_ways false refl (ap is_some e))
+  path_some (s ∷ ss) k q num e = go (path_some ss k q (and_parts (is_place (place_in qs s.path) s.place) (placed qs ss) num).1) (eqb s.place k) refl e
+    where
+      go : (path_under ss k ≡ Some q → q ≡ get_or qs k no_path) → (b : Bool) → eqb s.place k ≡ b → option_map (λ (x : LogSlot K). x.path) (cond b (Some s) (find (λ (x : LogSlot K). eqb x.place k) ss)) ≡ Some q → q ≡ get_or qs k no_path
+      go ih true h e =
+          let at : place_in qs s.path ≡ Some k = placed_at qs (s ∷ ss) 0 s num (omega arith) ∙ ap Some (eqb-true _ _ h) in
+          let is : s.path ≡ q = cc in
+          sym is ∙ sym (same_is _ _ (place_stands qs s.path k at).here)
+      go ih false h e = ih e
+
+  -- a path in the slots has a place that one of them has
+  path_none : (ss : List (LogSlot K)) (k : ℕ) (q : Path) → placed qs ss ≡ true → place_in qs q ≡ Some k → path_under ss k ≡ None → among (paths_of (map pair_of ss)) q ≡ false
+  path_none [] k q num own e = refl
+  path_none (s ∷ ss) k q num own e = go (path_none ss k q (and_parts (is_place (place_in qs s.path) s.place) (placed qs ss) num).1 own) (eqb s.place k) refl e (same_path s.path q) refl
+    where
+      go : (path_under ss k ≡ None → among (paths_of (map pair_of ss)) q ≡ false) → (b : Bool) → eqb s.place k ≡ b → option_map (λ (x : LogSlot K). x.path) (cond b (Some s) (find (λ (x : LogSlot K). eqb x.place k) ss)) ≡ None → (a : Bool) → same_path s.path q ≡ a → (a || among (paths_of (map pair_of ss)) q) ≡ false
+      go ih true h e a f = absurd (both_ways true (ap is_some e) refl)
+      go ih false h e true f =
+          let both : Some s.place ≡ Some k = sym (placed_at qs (s ∷ ss) 0 s num (omega arith)) ∙ ap (place_in qs) (same_is _ _ f) ∙ own in
+          let at : s.place ≡ k = cc in
+          absurd (both_ways (eqb s.place k) h (eq-eqb _ _ at))
+      go ih false h e false f = ih e
+
+-- the entry joined from one slot more
+pub joined_push : {K : Type 0} (join : K → K → K) (ss : List (LogSlot K)) (s : LogSlot K) (k : ℕ) → joined_under join (ss ++ s ∷ []) k ≡ cond (eqb s.place k) (Some (onto join (joined_under join ss k) s.entry)) (joined_under join ss k)
+joined_push {K} join ss s k = on ss None
   where
-    go : place_under ss p ≡ cond (among (paths_of (map pair_of ss)) p) (place_in qs p) None → (b : Bool) → same_path s.path p ≡ b → cond b (Some s.place) (place_under ss p) ≡ cond (b || among (paths_of (map pair_of ss)) p) (place_in qs p) None
-    go ih true h = sym (ap (place_in qs) (sym (same_is _ p h)) ∙ placed_at qs (s ∷ ss) 0 s num (omega arith))
-    go ih false h = ih
+    has : LogSlot K → Bool
+    has x = eqb x.place k
+
+    from : Option K → List (LogSlot K) → Option K
+    from o xs = fold (λ whole e. Some (onto join whole e)) o (map (λ (x : LogSlot K). x.entry) xs)
+
+    on : (xs : List (LogSlot K)) (o : Option K) → from o (filter has (xs ++ s ∷ [])) ≡ cond (has s) (Some (onto join (from o (filter has xs)) s.entry)) (from o (filter has xs))
+    on [] o = go (has s)
+      where
+        go : (b : Bool) → from o (cond b (s ∷ []) []) ≡ cond b (Some (onto join o s.entry)) o
+        go true = refl
+        go false = refl
+    on (x ∷ xs) o = go (on xs) (has x)
+      where
+        go : ((o : Option K) → from o (filter has (xs ++ s ∷ [])) ≡ cond (has s) (Some (onto join (from o (filter has xs)) s.entry)) (from o (filter has xs))) → (b : Bool) → from o (cond b (x ∷ filter has (xs ++ s ∷ [])) (filter has (xs ++ s ∷ []))) ≡ cond (has s) (Some (onto join (from o (cond b (x ∷ filter has xs) (filter has xs))) s.entry)) (from o (cond b (x ∷ filter has xs) (filter has xs)))
+        go ih true = ih (Some (onto join o x.entry))
+        go ih false = ih o
 
 -- the slots of a log
-module _ {K : Type 0} (join : K → K → K) (n : ℕ) (ss : List (LogSlot K)) (le : n ≤ length ss) where
-  pub log_step : (i : ℕ) (s : LogSlot K) → i < n → log_pairs join (i + 1) ss ≡ join_pairs join (log_pairs join i ss) (get_or ss i s).path (get_or ss i s).entry
-  log_step i s lt = ap (joined_to join []) (view_more pair_of i ss s (omega arith)) ∙ joined_append join [] (map pair_of (take i ss)) (pair_of (get_or ss i s) ∷ [])
+module _ {K : Type 0} (join : K → K → K) where
+  pub push_pairs : (ss : List (LogSlot K)) (s : LogSlot K) → log_pairs join (ss ++ s ∷ []) ≡ join_pairs join (log_pairs join ss) s.path s.entry
+  push_pairs ss s = ap (joined_to join []) (map_push pair_of ss s) ∙ joined_append join [] (map pair_of ss) (pair_of s ∷ [])
 
-  pub log_paths : paths_of (log_pairs join n ss) ≡ arrivals (take n ss)
-  log_paths = joined_paths join [] (map pair_of (take n ss))
+  pub log_paths : (ss : List (LogSlot K)) → paths_of (log_pairs join ss) ≡ arrivals ss
+  log_paths ss = joined_paths join [] (map pair_of ss)
 
-  firsts_more : (i : ℕ) → i < n → (rest : List Path) × (arrivals (take n ss) ≡ with_paths (arrivals (take (i + 1) ss)) rest)
-  firsts_more i lt =
-      let whole : take (i + 1) ss ++ drop (i + 1) (take n ss) ≡ take n ss = ap (λ xs. xs ++ drop (i + 1) (take n ss)) (sym (take-take (i + 1) n ss (omega arith))) ∙ take-append-drop (i + 1) (take n ss) in
-      let a = take (i + 1) ss in
-      let z = drop (i + 1) (take n ss) in
-      let split : paths_of (map pair_of (a ++ z)) ≡ paths_of (map pair_of a) ++ paths_of (map pair_of z) = ap paths_of (map-append pair_of a z) ∙ paths_append (map pair_of a) (map pair_of z) in
-      (paths_of (map pair_of z), ap arrivals (sym whole) ∙ ap (with_paths []) split ∙ with_paths_append [] (paths_of (map pair_of a)) (paths_of (map pair_of z)))
-
-  pub log_placed : (i : ℕ) (s : LogSlot K) → i < n → placed (arrivals (take n ss)) (take n ss) ≡ true → place_in (arrivals (take n ss)) (get_or ss i s).path ≡ Some (get_or ss i s).place
-  log_placed i s lt num =
-      let here : get_or (take n ss) i s ≡ get_or ss i s = get_or-take n ss i s lt in
-      subst (λ x. place_in (arrivals (take n ss)) x.path ≡ Some x.place) here (placed_at (arrivals (take n ss)) (take n ss) i s num (omega (arith, length-take-le n ss le)))
+module _ {K : Type 0} (join : K → K → K) (ss : List (LogSlot K)) (num : placed (arrivals ss) ss ≡ true) where
+  pub log_step : (i : ℕ) (s : LogSlot K) → i < length ss → log_pairs join (take (i + 1) ss) ≡ join_pairs join (log_pairs join (take i ss)) (get_or ss i s).path (get_or ss i s).entry
+  log_step i s lt = ap (log_pairs join) (take_more ss i s lt) ∙ push_pairs join (take i ss) (get_or ss i s)
 
   -- right after a slot its path stands where the slot says
-  pub log_place : (i : ℕ) (s : LogSlot K) → i < n → placed (arrivals (take n ss)) (take n ss) ≡ true → place_in (paths_of (join_pairs join (log_pairs join i ss) (get_or ss i s).path (get_or ss i s).entry)) (get_or ss i s).path ≡ Some (get_or ss i s).place
-  log_place i s lt num =
-      let p = (get_or ss i s).path in
+  pub log_place : (i : ℕ) (s : LogSlot K) → i < length ss → place_in (paths_of (join_pairs join (log_pairs join (take i ss)) (get_or ss i s).path (get_or ss i s).entry)) (get_or ss i s).path ≡ Some (get_or ss i s).place
+  log_place i s lt =
+      let x = get_or ss i s in
+      let p = x.path in
       let one = take (i + 1) ss in
-      let ps = paths_of (map pair_of one) in
-      let long : i < length ps = omega (arith, length_paths (map pair_of one), view_length pair_of (i + 1) ss (omega arith)) in
-      let here : get_or ps i no_path ≡ p = view_path pair_of (i + 1) ss i s (omega arith) (omega arith) in
-      let a : among (arrivals one) p ≡ true = among_with_paths [] ps p ∙ ap (among ps) (sym here) ∙ among_here ps i long in
-      let more = firsts_more i lt in
+      let rest = paths_of (map pair_of (drop (i + 1) ss)) in
+      let whole : arrivals ss ≡ with_paths (arrivals one) rest =
+      ap arrivals (sym (take-append-drop (i + 1) ss))
+      ∙ ap (λ ps. with_paths [] (paths_of ps)) (map-append pair_of one (drop (i + 1) ss))
+      ∙ ap (with_paths []) (paths_append (map pair_of one) (map pair_of (drop (i + 1) ss)))
+      ∙ with_paths_append [] (paths_of (map pair_of one)) rest in
+      let here : among (paths_of (map pair_of one)) p ≡ true =
+      ap (λ ys. among (paths_of (map pair_of ys)) p) (take_more ss i s lt)
+      ∙ ap (λ ps. among (paths_of ps) p) (map_push pair_of (take i ss) x)
+      ∙ ap (λ qs. among qs p) (paths_append (map pair_of (take i ss)) (pair_of x ∷ []))
+      ∙ among_push (paths_of (map pair_of (take i ss))) p p
+      ∙ or_right (among (paths_of (map pair_of (take i ss))) p) (same_path p p) (same_refl p) in
       ap (λ xs. place_in (paths_of xs) p) (sym (log_step i s lt))
-      ∙ ap (λ qs. place_in qs p) (joined_paths join [] (map pair_of one))
-      ∙ sym (place_with_paths (arrivals one) more.0 p a)
-      ∙ ap (λ qs. place_in qs p) (sym more.1)
-      ∙ log_placed i s lt num
+      ∙ ap (λ qs. place_in qs p) (log_paths join one)
+      ∙ sym (place_with_paths (arrivals one) rest p (among_with_paths [] (paths_of (map pair_of one)) p ∙ here))
+      ∙ ap (λ qs. place_in qs p) (sym whole)
+      ∙ placed_at (arrivals ss) ss i s num lt
 
-  pub log_find : (p : Path) → placed (arrivals (take n ss)) (take n ss) ≡ true → place_under (take n ss) p ≡ place_in (paths_of (log_pairs join n ss)) p
-  log_find p num =
-      let qs = arrivals (take n ss) in
-      under_is qs (take n ss) p num
-      ∙ ap (λ b. cond b (place_in qs p) None) (sym (among_with_paths [] (paths_of (map pair_of (take n ss))) p) ∙ among_is qs p)
+  pub log_find : (p : Path) → place_under ss p ≡ place_in (paths_of (log_pairs join ss)) p
+  log_find p =
+      let qs = arrivals ss in
+      under_is qs ss p num
+      ∙ ap (λ b. cond b (place_in qs p) None) (sym (among_with_paths [] (paths_of (map pair_of ss)) p) ∙ among_is qs p)
       ∙ or_none (place_in qs p)
-      ∙ ap (λ xs. place_in xs p) (sym log_paths)
+      ∙ ap (λ xs. place_in xs p) (sym (log_paths join ss))
     where
       or_none : (o : Option ℕ) → cond (is_some o) o None ≡ o
       or_none None = refl
       or_none (Some k) = refl
 
-  pub log_find_none : (p : Path) → ((k : ℕ) → k < n → same_path (path_in (map pair_of (take n ss)) k) p ≡ false) → None ≡ place_in (paths_of (log_pairs join n ss)) p
-  log_find_none p h =
-      let ps = paths_of (map pair_of (take n ss)) in
-      let a : among ps p ≡ false = among_none ps p (λ k lt. h k (omega (arith, length_paths (map pair_of (take n ss)), view_length pair_of n ss le))) in
-      sym (none_is _ (sym (among_is (paths_of (log_pairs join n ss)) p) ∙ ap (λ qs. among qs p) log_paths ∙ among_with_paths [] ps p ∙ a))
-
-  pub log_path_some : (i : ℕ) (s : LogSlot K) (k : ℕ) → i < n → placed (arrivals (take n ss)) (take n ss) ≡ true → (get_or ss i s).place ≡ k → (get_or ss i s).path ≡ path_in (log_pairs join n ss) k
-  log_path_some i s k lt num e =
-      let st = place_stands (arrivals (take n ss)) (get_or ss i s).path k (log_placed i s lt num ∙ ap Some e) in
-      sym (ap (λ qs. get_or qs k no_path) log_paths ∙ same_is _ _ st.here)
-
-  pub log_path_none : (k : ℕ) (s : LogSlot K) → placed (arrivals (take n ss)) (take n ss) ≡ true → ((i : ℕ) → i < n → (get_or ss i s).place ≡ k → ⊥) → no_path ≡ path_in (log_pairs join n ss) k
-  log_path_none k s num none' =
-      ⊎_elim
-      (λ lt. absurd (contra lt))
-      (λ past. sym (path_past (log_pairs join n ss) k past))
-      (cases_lt k (length (log_pairs join n ss)))
+  pub log_path : (k : ℕ) → unwrap_or (path_under ss k) no_path ≡ path_in (log_pairs join ss) k
+  log_path k = go (path_under ss k) refl ∙ ap (λ qs. get_or qs k no_path) (sym (log_paths join ss))
     where
-      contra : k < length (log_pairs join n ss) → ⊥
-      contra lt =
-          let qs = arrivals (take n ss) in
-          let ps = paths_of (map pair_of (take n ss)) in
-          let long : k < length qs = omega (arith, length_paths (log_pairs join n ss), ap length log_paths) in
-          let q = get_or qs k no_path in
-          let d : distinct qs ≡ true = ap distinct (sym log_paths) ∙ joined_distinct join [] (map pair_of (take n ss)) refl in
-          let own = place_own qs k d long in
-          let apart : (i : ℕ) → i < n → same_path (path_in (map pair_of (take n ss)) i) q ≡ false = λ i h. differs i h (same_path (path_in (map pair_of (take n ss)) i) q) refl own in
-          let f = log_find_none q apart in
-          let g : Some k ≡ place_in (paths_of (log_pairs join n ss)) q = sym (ap (λ xs. place_in xs q) log_paths ∙ own) in
-          both_ways true (sym (ap is_some (f ∙ sym g))) refl
+      go : (o : Option Path) → path_under ss k ≡ o → unwrap_or o no_path ≡ get_or (arrivals ss) k no_path
+      go (Some q) e = path_some (arrivals ss) ss k q num e
+      go None e = ⊎_elim (λ lt. absurd (apart lt)) (λ past. sym (get_or_past (arrivals ss) k no_path past)) (cases_lt k (length (arrivals ss)))
         where
-          differs : (i : ℕ) → i < n → (b : Bool) → same_path (path_in (map pair_of (take n ss)) i) (get_or (arrivals (take n ss)) k no_path) ≡ b → place_in (arrivals (take n ss)) (get_or (arrivals (take n ss)) k no_path) ≡ Some k → b ≡ false
-          differs i h true e own =
-              let p = view_path pair_of n ss i s le h in
-              let same = sym p ∙ same_is _ _ e in
-              let both : Some (get_or ss i s).place ≡ Some k = sym (log_placed i s h num) ∙ ap (place_in (arrivals (take n ss))) same ∙ own in
-              let at : (get_or ss i s).place ≡ k = cc in
-              absurd (none' i h at)
-          differs i h false e own = refl
+          apart : k < length (arrivals ss) → ⊥
+          apart lt =
+              let q = get_or (arrivals ss) k no_path in
+              let d : distinct (arrivals ss) ≡ true = ap distinct (sym (log_paths join ss)) ∙ joined_distinct join [] (map pair_of ss) refl in
+              let none' = path_none (arrivals ss) ss k q num (place_own (arrivals ss) k d lt) e in
+              both_ways (among (arrivals ss) q) (among_with_paths [] (paths_of (map pair_of ss)) q ∙ none') (among_here (arrivals ss) k lt)
+
+  joined_up_to : (b : K) (k i : ℕ) → i ≤ length ss → joined_under join (take i ss) k ≡ held_at (log_pairs join (take i ss)) k
+  joined_up_to b k zero le = refl
+  joined_up_to b k (suc i) le = ap (λ n. joined_under join (take n ss) k) (sym next) ∙ more (joined_up_to b k i (omega arith)) ∙ ap (λ n. held_at (log_pairs join (take n ss)) k) next
+    where
+      next : i + 1 ≡ suc i
+      next = omega arith
+
+      s : LogSlot K
+      s = get_or ss i (blank_slot b)
+
+      ps : List (Path × K)
+      ps = log_pairs join (take i ss)
+
+      more : joined_under join (take i ss) k ≡ held_at ps k → joined_under join (take (i + 1) ss) k ≡ held_at (log_pairs join (take (i + 1) ss)) k
+      more ih =
+          let lt : i < length ss = omega arith in
+          ap (λ xs. joined_under join xs k) (take_more ss i (blank_slot b) lt)
+          ∙ joined_push join (take i ss) s k
+          ∙ ap (λ o. cond (eqb s.place k) (Some (onto join o s.entry)) o) ih
+          ∙ go (joined_at join s.path s.entry ps s.place (log_place i (blank_slot b) lt)) (eqb s.place k) refl
+          ∙ ap (λ xs. held_at xs k) (sym (log_step i (blank_slot b) lt))
+        where
+          go : (held_at (join_pairs join ps s.path s.entry) s.place ≡ Some (onto join (held_at ps s.place) s.entry)) × ((n : ℕ) → (n ≡ s.place → ⊥) → held_at (join_pairs join ps s.path s.entry) n ≡ held_at ps n) → (b : Bool) → eqb s.place k ≡ b → cond b (Some (onto join (held_at ps k) s.entry)) (held_at ps k) ≡ held_at (join_pairs join ps s.path s.entry) k
+          go h true e = subst (λ n. Some (onto join (held_at ps n) s.entry) ≡ held_at (join_pairs join ps s.path s.entry) n) (eqb-true _ _ e) (sym h.0)
+          go h false e = sym (h.1 k (λ z. eqb-false _ _ e (sym z)))
+
+  pub log_entry : (b : K) (k : ℕ) → unwrap_or (joined_under join ss k) b ≡ entry_in b (log_pairs join ss) k
+  log_entry b k =
+      let whole = take-length ss in
+      ap (λ xs. unwrap_or (joined_under join xs k) b) (sym whole)
+      ∙ ap (λ o. unwrap_or o b) (joined_up_to b k (length ss) (omega arith))
+      ∙ ap (λ xs. unwrap_or (held_at (log_pairs join xs) k) b) whole
+      ∙ held_value b (log_pairs join ss) k

@@ -2,24 +2,23 @@
 // when they are used up.
 #![tactic(auto)]
 
-ghost use Rattle.std.specs.Prelude.{◌≡◌, ◌/◌, ◌≤◌, true, length, take};
+ghost use Rattle.std.specs.Prelude.{◌≡◌, ◌/◌, ◌≤◌, true, length};
 ghost use Rattle.folding_log.specs.Slots.{arrivals, placed};
 
 mod fold;
 mod log_store;
 mod slot;
 
+use lent::Lent;
 pub use slot::LogSlot;
 
-// The first slots hold the pairs that came, in their order, several of them perhaps of one path.
+// The pairs that came, in their order, several of them perhaps of one path, and how many paths they have.
 // There are half as many places as slots, so that a fold always frees some.
 #[derive(Drop)]
 pub struct Log<'a, K> {
-    slots: &'a mut [LogSlot<K>],
-    used: usize,
+    slots: Lent<'a, LogSlot<K>>,
     held: usize,
-    ghost fits: { used ≤ length slots.now },
-    ghost half: { held ≤ length slots.now / 2 },
-    ghost counted: { held ≡ length (arrivals (take used slots.now)) },
-    ghost numbered: { placed (arrivals (take used slots.now)) (take used slots.now) ≡ true },
+    ghost half: { held ≤ slots.places / 2 },
+    ghost counted: { held ≡ length (arrivals slots.items) },
+    ghost numbered: { placed (arrivals slots.items) slots.items ≡ true },
 }

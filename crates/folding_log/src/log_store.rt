@@ -1,7 +1,7 @@
-ghost use Rattle.std.specs.Prelude.{◌≡◌, ◌+◌, ◌/◌, ◌<◌, ◌≤◌, true, length, take, slice_set};
+ghost use Rattle.std.specs.Prelude.{◌≡◌, ◌/◌, ◌<◌, length};
 ghost use Rattle.store.specs.Meaning.{empty_store};
 ghost use Rattle.store.specs.Laws.{onto};
-ghost use Rattle.folding_log.specs.Slots.{arrivals, placed, place_under, seat, log_pairs};
+ghost use Rattle.folding_log.specs.Slots.{place_under, path_under, joined_under, seat, log_pairs};
 ghost use Rattle.folding_log.specs.Logs.{log_meaning, log_sound};
 
 use crate::Log;
@@ -9,8 +9,8 @@ use crate::fold::fold;
 use crate::slot::LogSlot;
 use entries::Joinable;
 use grounds::Ground;
+use lent::Lent;
 use names::Path;
-use std::mem;
 use store::{Readable, Store};
 
 impl<'a, K: Joinable> Log<'a, K> {
@@ -19,58 +19,33 @@ impl<'a, K: Joinable> Log<'a, K> {
         ensures { log_meaning K.Joinable.joined result ≡ empty_store (length slots.old / 2) }
     {
         Log {
-            slots,
-            used: 0,
+            slots: Lent::new(slots),
             held: 0,
         }
     }
 
     // Folds the slots if they are used up.
     fn make_room(&mut self)
-        ensures slots { length self.new.slots.now ≡ length self.old.slots.now }
+        ensures places { self.new.slots.places ≡ self.old.slots.places }
         ensures held { self.new.held ≡ self.old.held }
-        ensures pairs { log_pairs K.Joinable.joined self.new.used self.new.slots.now ≡ log_pairs K.Joinable.joined self.old.used self.old.slots.now }
-        ensures free { self.old.held < length self.old.slots.now → self.new.used < length self.new.slots.now }
+        ensures pairs { log_pairs K.Joinable.joined self.new.slots.items ≡ log_pairs K.Joinable.joined self.old.slots.items }
+        ensures free { self.old.held < self.old.slots.places → length self.new.slots.items < self.new.slots.places }
     {
-        if self.used < self.slots.len() {
-            return;
+        if self.slots.len() >= self.slots.places() {
+            fold(&mut self.slots);
         }
-        let slots = mem::replace(&mut self.slots, &mut []);
-        let folded = fold(slots, self.used);
-        self.slots = slots;
-        self.used = folded;
     }
 
     // The place for the path that was looked for, and how many paths are held with it.
     // A new path comes last; there is no place for it when every place is held.
     fn place_for(&self, found: Option<usize>) -> Option<(usize, usize)>
-        ensures { result ≡ seat found self.now.held (length self.now.slots.now / 2) }
+        ensures { result ≡ seat found self.now.held (self.now.slots.places / 2) }
     {
         match found {
             Some(place) => Some((place, self.held)),
-            None => {
-                if self.held == self.slots.len() / 2 {
-                    None
-                } else {
-                    Some((self.held, self.held + 1))
-                }
-            }
+            None if self.held == self.slots.places() / 2 => None,
+            None => Some((self.held, self.held + 1)),
         }
-    }
-
-    // Writes a pair to the first free slot, and notes how many paths are held then.
-    fn append(&mut self, slot: LogSlot<K>, held: usize)
-        requires free { self.old.used < length self.old.slots.now }
-        requires half { held ≤ length self.old.slots.now / 2 }
-        requires counted { held ≡ length (arrivals (take (self.old.used + 1) (slice_set self.old.slots.now self.old.used slot))) }
-        requires numbered { placed (arrivals (take (self.old.used + 1) (slice_set self.old.slots.now self.old.used slot))) (take (self.old.used + 1) (slice_set self.old.slots.now self.old.used slot)) ≡ true }
-        ensures used { self.new.used ≡ self.old.used + 1 }
-        ensures slots { self.new.slots.now ≡ slice_set self.old.slots.now self.old.used slot }
-    {
-        let at = self.used;
-        self.slots[at] = slot;
-        self.used = at + 1;
-        self.held = held;
     }
 }
 
@@ -78,24 +53,38 @@ impl<'a, K: Joinable> Log<'a, K> {
 fn place_under<K>(slots: &[LogSlot<K>], path: &Path) -> Option<usize>
     ensures { result ≡ place_under slots.now path.now }
 {
-    let mut rest = slots;
-    'slots: while let Some((slot, after)) = rest.split_first() {
-        if slot.path == *path {
-            return Some(slot.place);
-        }
-        rest = after;
-    }
-    None
+    slots
+        .iter()
+        .find(|slot| slot.path == *path)
+        .map(|slot| slot.place)
+}
+
+// The path in the first slot that has the place.
+fn path_under<K>(slots: &[LogSlot<K>], place: usize) -> Option<Path>
+    ensures { result ≡ path_under slots.now place }
+{
+    slots
+        .iter()
+        .find(|slot| slot.place == place)
+        .map(|slot| slot.path)
 }
 
 // An entry joined to the one before it, if there is one.
 fn onto<K: Joinable>(before: Option<K>, entry: K) -> K
     ensures { result ≡ onto K.Joinable.joined before entry }
 {
-    match before {
-        Some(old) => old.join(entry),
-        None => entry,
-    }
+    before.map_or(entry, |old| old.join(entry))
+}
+
+// The join of the entries in the slots that have the place.
+fn joined_under<K: Joinable>(slots: &[LogSlot<K>], place: usize) -> Option<K>
+    ensures { result ≡ joined_under K.Joinable.joined slots.now place }
+{
+    slots
+        .iter()
+        .filter(|slot| slot.place == place)
+        .map(|slot| slot.entry)
+        .fold(None, |whole, entry| Some(onto(whole, entry)))
 }
 
 impl<'a, K: Joinable> Readable<K> for Log<'a, K> {
@@ -108,47 +97,30 @@ impl<'a, K: Joinable> Readable<K> for Log<'a, K> {
     }
 
     fn places(&self) -> usize {
-        self.slots.len() / 2
+        self.slots.places() / 2
     }
 
     fn find(&self, path: &Path) -> Option<usize> {
-        let slots = &*self.slots;
-        place_under(&slots[0..self.used], path)
+        place_under(self.slots.as_slice(), path)
     }
 
     fn path_at(&self, place: usize) -> Path {
-        let slots = &*self.slots;
-        'slots: for i in 0..self.used {
-            let slot = &slots[i];
-            if slot.place == place {
-                return slot.path;
-            }
-        }
-        Path::NONE
+        path_under(self.slots.as_slice(), place).unwrap_or(Path::NONE)
     }
 
-    // The join of all the entries that came to the place.
     fn entry_at(&self, place: usize) -> K {
-        let slots = &*self.slots;
-        let mut whole = None;
-        'slots: for i in 0..self.used {
-            let slot = slots[i];
-            if slot.place == place {
-                whole = Some(onto(whole, slot.entry));
-            }
-        }
-        whole.unwrap_or(K::blank())
+        joined_under(self.slots.as_slice(), place).unwrap_or(K::blank())
     }
 }
 
 impl<'a, K: Joinable> Store<K> for Log<'a, K> {
     fn join(&mut self, path: Path, entry: K) -> Result<(), Ground> {
         let found = self.find(&path);
-        let Some((place, held)) = self.place_for(found) else {
-            return Err(Ground::StoreFull);
-        };
+        let (place, held) = self.place_for(found).ok_or(Ground::StoreFull)?;
         self.make_room();
-        self.append(LogSlot { path, entry, place }, held);
-        Ok(())
+        self.held = held;
+        self.slots
+            .push(LogSlot { path, entry, place })
+            .map_err(|_| Ground::StoreFull)
     }
 }

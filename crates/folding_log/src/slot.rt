@@ -4,7 +4,7 @@ use entries::Joinable;
 use names::Path;
 
 // Memory for one pair, and the place that its path has in the store.
-#[derive(Clone, Copy)]
+#[derive(Clone, Copy, Debug, PartialEq, Eq)]
 pub struct LogSlot<K> {
     pub path: Path,
     pub entry: K,
@@ -12,6 +12,19 @@ pub struct LogSlot<K> {
 }
 
 impl<K: Joinable> LogSlot<K> {
+    ghost use Rattle.folding_log.specs.Slots.{blank_slot};
+
+    // What lent memory may hold before a pair is put there: no path, the blank entry, and place 0.
+    pub fn blank() -> LogSlot<K>
+        ensures { result ≡ blank_slot K.Joinable.empty }
+    {
+        LogSlot {
+            path: Path::NONE,
+            entry: K::blank(),
+            place: 0,
+        }
+    }
+
     // The slot with an entry joined to its own.
     pub(crate) fn joined(self, entry: K) -> LogSlot<K>
         ensures path { result.path ≡ self.path }
@@ -19,9 +32,8 @@ impl<K: Joinable> LogSlot<K> {
         ensures place { result.place ≡ self.place }
     {
         LogSlot {
-            path: self.path,
             entry: self.entry.join(entry),
-            place: self.place,
+            ..self
         }
     }
 }

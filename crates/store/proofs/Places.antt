@@ -1,23 +1,11 @@
 -- Where a path stands in a list of paths. Assumes nothing.
 use Rattle.std.proofs.Common.{◌≡◌, ℕ, zero, suc, ◌<◌, Bool, true, false, cond, not, ◌||◌, List, [], ◌∷◌, ◌++◌, length, get_or, is_some, Some, None, Option, sym, refl, ap, ◌∙◌, subst, le_of_suc-le-suc, not-suc-le-zero, arith}
-use Rattle.std.proofs.lemmas.Bool.{cond-true, cond-false, both_ways, and_parts, or_parts, or_from, or_right, not-true}
+use Rattle.std.proofs.lemmas.Bool.{cond-true, cond-false, both_ways, and_parts, or_parts, or_right, not-true}
 use Rattle.std.specs.Option.{option_map}
 use Rattle.names.specs.declared.path.Path.{Path}
 use Rattle.names.specs.Paths.{same_path, no_path}
 use Rattle.names.specs.Same.{same_is, same_refl}
 use Rattle.store.specs.Meaning.{among, distinct, place_in}
-
--- the place of the first that fits
-pub place_some : (qs : List Path) (p : Path) (i : ℕ) → i < length qs → ((k : ℕ) → k < i → same_path (get_or qs k no_path) p ≡ false) → same_path (get_or qs i no_path) p ≡ true → place_in qs p ≡ Some i
-place_some [] p i lt before here = absurd (not-suc-le-zero lt)
-place_some (q ∷ qs) p zero lt before here = cond-true _ _ _ here
-place_some (q ∷ qs) p (suc i) lt before here =
-    cond-false _ _ _ (before 0 (omega arith)) ∙ ap (option_map suc) (place_some qs p i (le_of_suc-le-suc lt) (λ k h. before (suc k) (omega arith)) here)
-
--- no place where none fits
-pub place_none : (qs : List Path) (p : Path) → ((k : ℕ) → k < length qs → same_path (get_or qs k no_path) p ≡ false) → place_in qs p ≡ None
-place_none [] p before = refl
-place_none (q ∷ qs) p before = cond-false _ _ _ (before 0 (omega arith)) ∙ ap (option_map suc) (place_none qs p (λ k h. before (suc k) (omega arith)))
 
 -- a path is among them exactly where it has a place
 pub among_is : (qs : List Path) (p : Path) → among qs p ≡ is_some (place_in qs p)
@@ -62,11 +50,6 @@ place_push (x ∷ xs) p a =
 pub place_push_other : (qs : List Path) (p q : Path) → same_path p q ≡ false → place_in (qs ++ p ∷ []) q ≡ place_in qs q
 place_push_other [] p q h = cond-false _ _ _ h
 place_push_other (r ∷ qs) p q h = ap (λ o. cond (same_path r q) (Some 0) (option_map suc o)) (place_push_other qs p q h)
-
--- a path that no place has is not among them
-pub among_none : (qs : List Path) (p : Path) → ((k : ℕ) → k < length qs → same_path (get_or qs k no_path) p ≡ false) → among qs p ≡ false
-among_none [] p h = refl
-among_none (q ∷ qs) p h = or_from _ _ (h 0 (omega arith)) (among_none qs p (λ k lt. h (suc k) (omega arith)))
 
 -- a path that is read at a place is among them
 pub among_here : (qs : List Path) (k : ℕ) → k < length qs → among qs (get_or qs k no_path) ≡ true

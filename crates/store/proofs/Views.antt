@@ -2,10 +2,8 @@
 use Rattle.std.proofs.Common.{◌≡◌, ℕ, ◌+◌, ◌<◌, ◌≤◌, List, [], ◌∷◌, ◌++◌, map, length, get_or, take, set, ap, ◌∙◌, arith}
 use lib.ListN.{length-map}
 use lib.Seq.{take-set-lt}
-use Rattle.std.proofs.lemmas.List.{get_or-map, get_or-take, length-take-le, take_more, take_more_set, map_push, map-set}
+use Rattle.std.proofs.lemmas.List.{get_or-map, get_or-take, length-take-le, take_more_set, map_push, map-set}
 use Rattle.names.specs.declared.path.Path.{Path}
-use Rattle.store.specs.Meaning.{path_in}
-use Rattle.store.proofs.Pairs.{path_here}
 
 module _ {X K : Type 0} (f : X → Path × K) where
   pub view_length : (n : ℕ) (xs : List X) → n ≤ length xs → length (map f (take n xs)) ≡ n
@@ -14,14 +12,8 @@ module _ {X K : Type 0} (f : X → Path × K) where
   pub view_here : (n : ℕ) (xs : List X) (i : ℕ) (x : X) → n ≤ length xs → i < n → get_or (map f (take n xs)) i (f x) ≡ f (get_or xs i x)
   view_here n xs i x le lt = get_or-map f (take n xs) i x (f x) (omega (arith, length-take-le n xs le)) ∙ ap f (get_or-take n xs i x lt)
 
-  pub view_path : (n : ℕ) (xs : List X) (i : ℕ) (x : X) → n ≤ length xs → i < n → path_in (map f (take n xs)) i ≡ (f (get_or xs i x)).0
-  view_path n xs i x le lt = path_here (map f (take n xs)) i (f x) (omega (arith, view_length n xs le)) ∙ ap (λ y. y.0) (view_here n xs i x le lt)
-
   pub view_set : (n : ℕ) (xs : List X) (i : ℕ) (x : X) → i < n → map f (take n (set xs i x)) ≡ set (map f (take n xs)) i (f x)
   view_set n xs i x lt = ap (map f) (take-set-lt n xs i x lt) ∙ map-set f (take n xs) i x
 
   pub view_push : (n : ℕ) (xs : List X) (x : X) → n < length xs → map f (take (n + 1) (set xs n x)) ≡ map f (take n xs) ++ f x ∷ []
   view_push n xs x lt = ap (map f) (take_more_set xs n x lt) ∙ map_push f (take n xs) x
-
-  pub view_more : (n : ℕ) (xs : List X) (x : X) → n < length xs → map f (take (n + 1) xs) ≡ map f (take n xs) ++ f (get_or xs n x) ∷ []
-  view_more n xs x lt = ap (map f) (take_more xs n x lt) ∙ map_push f (take n xs) (get_or xs n x)

@@ -84,7 +84,8 @@ impl<K: Joinable> Bank<K> for NoMore {
     }
 }
 
-// A store and the stores after it.
+// A store and the stores after it. Each question is asked anew of the one or the others: a function that took the question
+// as a closure would be longer than the seven methods are, and a `dyn` of a trait with a parameter has no proof.
 impl<K: Joinable, S: Store<K>, R: Bank<K>> Bank<K> for (S, R) {
     ghost meanings = { λ s. S.Readable.meaning s.0 ∷ R.Bank.meanings s.1 };
 

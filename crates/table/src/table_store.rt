@@ -1,12 +1,13 @@
-ghost use Rattle.std.specs.Prelude.{◌≡◌, ◌+◌, ◌<◌, true, map, length, take, ◌==◌, slice_set};
-ghost use Rattle.store.specs.Meaning.{empty_store, paths_of, distinct, place_in};
-ghost use Rattle.table.specs.Slots.{pair_of};
+ghost use Rattle.std.specs.Prelude.{◌≡◌, length, position};
+ghost use Rattle.names.specs.Paths.{same_path};
+ghost use Rattle.store.specs.Meaning.{empty_store};
 ghost use Rattle.table.specs.Tables.{table_meaning, table_sound};
 
 use crate::Table;
 use crate::slot::TableSlot;
 use entries::Joinable;
 use grounds::Ground;
+use lent::Lent;
 use names::Path;
 use store::{Readable, Store};
 
@@ -15,45 +16,17 @@ impl<'a, K> Table<'a, K> {
     pub fn new(slots: &'a mut [TableSlot<K>]) -> Table<'a, K>
         ensures { table_meaning result ≡ empty_store (length slots.old) }
     {
-        Table { slots, used: 0 }
-    }
-}
-
-impl<'a, K: Joinable> Table<'a, K> {
-    // Whether every slot is used.
-    fn is_full(&self) -> bool
-        ensures { result ≡ (self.now.used == length self.now.slots.now) }
-    {
-        self.used == self.slots.len()
-    }
-
-    // Writes a pair with a new path after those that are held.
-    fn push(&mut self, slot: TableSlot<K>)
-        requires free { self.old.used < length self.old.slots.now }
-        requires apart { distinct (paths_of (map pair_of (take (self.old.used + 1) (slice_set self.old.slots.now self.old.used slot)))) ≡ true }
-        ensures used { self.new.used ≡ self.old.used + 1 }
-        ensures slots { self.new.slots.now ≡ slice_set self.old.slots.now self.old.used slot }
-    {
-        let at = self.used;
-        self.slots[at] = slot;
-        self.used = at + 1;
-    }
-}
-
-// The place of the first slot that has the path.
-fn first_with<K>(slots: &[TableSlot<K>], path: &Path) -> Option<usize>
-    ensures { result ≡ place_in (paths_of (map pair_of slots.now)) path.now }
-{
-    let mut place = 0;
-    let mut rest = slots;
-    'slots: while let Some((slot, after)) = rest.split_first() {
-        if slot.path == *path {
-            return Some(place);
+        Table {
+            slots: Lent::new(slots),
         }
-        place += 1;
-        rest = after;
     }
-    None
+}
+
+// The place of the first slot that has the path. Over the slice alone, since in the trait's method its proof did not close.
+fn first_with<K>(slots: &[TableSlot<K>], path: &Path) -> Option<usize>
+    ensures { result ≡ position (λ slot. same_path slot.path path.now) slots.now }
+{
+    slots.iter().position(|slot| slot.path == *path)
 }
 
 impl<'a, K: Joinable> Readable<K> for Table<'a, K> {
@@ -62,34 +35,23 @@ impl<'a, K: Joinable> Readable<K> for Table<'a, K> {
     ghost sound = { table_sound };
 
     fn count(&self) -> usize {
-        self.used
-    }
-
-    fn places(&self) -> usize {
         self.slots.len()
     }
 
+    fn places(&self) -> usize {
+        self.slots.places()
+    }
+
     fn find(&self, path: &Path) -> Option<usize> {
-        let slots = &*self.slots;
-        first_with(&slots[0..self.used], path)
+        first_with(self.slots.as_slice(), path)
     }
 
     fn path_at(&self, place: usize) -> Path {
-        let slots = &*self.slots;
-        if place < self.used {
-            slots[place].path
-        } else {
-            Path::NONE
-        }
+        self.slots.get(place).map_or(Path::NONE, |slot| slot.path)
     }
 
     fn entry_at(&self, place: usize) -> K {
-        let slots = &*self.slots;
-        if place < self.used {
-            slots[place].entry
-        } else {
-            K::blank()
-        }
+        self.slots.get(place).map_or(K::blank(), |slot| slot.entry)
     }
 }
 
@@ -97,16 +59,14 @@ impl<'a, K: Joinable> Store<K> for Table<'a, K> {
     fn join(&mut self, path: Path, entry: K) -> Result<(), Ground> {
         match self.find(&path) {
             Some(at) => {
-                self.slots[at] = self.slots[at].joined(entry);
+                let slot = self.slots.as_slice()[at];
+                self.slots.set(at, slot.joined(entry));
                 Ok(())
             }
-            None => {
-                if self.is_full() {
-                    return Err(Ground::StoreFull);
-                }
-                self.push(TableSlot { path, entry });
-                Ok(())
-            }
+            None => self
+                .slots
+                .push(TableSlot { path, entry })
+                .map_err(|_| Ground::StoreFull),
         }
     }
 }

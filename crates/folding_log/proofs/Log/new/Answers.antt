@@ -1,7 +1,7 @@
-use Rattle.std.proofs.Common.{refl}
+use Rattle.std.proofs.Common.{rules}
 use Rattle.store.specs.Meaning.{empty_store}
 use Rattle.folding_log.proofs.Log.new.Goals as goal
 
 pub returns : goal.returns
 unfolding empty_store
-returns g c = refl
+returns g c = search rules

@@ -1,5 +1,6 @@
+use Rattle.std.proofs.Common.{◌≡◌}
 use Rattle.folding_log.proofs.Folds.{Folded}
 use Rattle.folding_log.proofs.fold.fold.Given as goal
 
 abbrev pub invariant-slots : goal.invariant-slots
-invariant-slots g l = Folded g.K.Joinable.joined l.initial.slots l.slots l.folded l.i
+invariant-slots g l = record { folded : Folded g.K.Joinable.joined l.initial.slots.items l.slots.items l.folded l.i; places : l.slots.places ≡ l.initial.slots.places }

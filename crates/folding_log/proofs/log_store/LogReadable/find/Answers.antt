@@ -1,5 +1,6 @@
-use Rattle.std.proofs.Common.{rules}
+use Rattle.std.proofs.Common.{ap, ◌∙◌}
 use Rattle.store.specs.Meaning.{place_of}
+use Rattle.folding_log.specs.Slots.{place_under}
 use Rattle.folding_log.proofs.Steps.{log_find}
 use Rattle.folding_log.proofs.log_store.LogReadable.find.Goals as goal
 
@@ -7,5 +8,4 @@ pub returns : goal.returns
 unfolding place_of
 returns g c =
     let t = c.args.self.now in
-    let h = log_find g.K.Joinable.joined t.used t.slots.now t.fits c.args.path.now t.numbered in
-    search rules
+    c.place_under.ensures ∙ ap (λ ss. place_under ss c.args.path.now) c.as_slice.ensures ∙ log_find g.K.Joinable.joined t.slots.items t.numbered c.args.path.now

@@ -1,5 +1,7 @@
-use Rattle.table.proofs.Held.{count_is}
+use Rattle.std.proofs.lemmas.List.{length-map}
+use Rattle.store.specs.Meaning.{count_of}
 use Rattle.table.proofs.table_store.TableReadable.count.Goals as goal
 
 pub returns : goal.returns
-returns g c = count_is c.args.self.now
+unfolding count_of
+returns g c = simp length-map c.len.ensures

@@ -1,9 +1,8 @@
-use Rattle.std.proofs.Common.{◌∙◌}
-use Rattle.table.proofs.Held.{entry_is, entry_beyond}
+use Rattle.std.proofs.Common.{rules}
+use Rattle.store.specs.Meaning.{entry_at}
+use Rattle.table.proofs.Pairs.{entry_here}
 use Rattle.table.proofs.table_store.TableReadable.entry_at.Goals as goal
 
-pub returns-then-place-self : goal.returns-then-place-self
-returns-then-place-self g c = entry_is c.args.self.now _ c.args.place c.index-slots-place.result c.if-place-self.true
-
-pub returns-else-place-self : goal.returns-else-place-self
-returns-else-place-self g c = c.blank.ensures ∙ entry_beyond c.args.self.now _ c.args.place c.if-place-self.false
+pub returns : goal.returns
+unfolding entry_at
+returns g c = entry_here g.K.Joinable.empty c.args.self.now.slots.items c.args.place c.map_or.result (search rules)

@@ -1,8 +1,8 @@
-use Rattle.table.proofs.Held.{path_is, path_beyond}
+use Rattle.std.proofs.Common.{rules}
+use Rattle.store.specs.Meaning.{path_at}
+use Rattle.table.proofs.Pairs.{path_here}
 use Rattle.table.proofs.table_store.TableReadable.path_at.Goals as goal
 
-pub returns-then-place-self : goal.returns-then-place-self
-returns-then-place-self g c = path_is c.args.self.now c.args.place c.index-slots-place.result c.if-place-self.true
-
-pub returns-else-place-self : goal.returns-else-place-self
-returns-else-place-self g c = path_beyond c.args.self.now c.args.place c.if-place-self.false
+pub returns : goal.returns
+unfolding path_at
+returns g c = path_here c.args.self.now.slots.items c.args.place c.map_or.result (search rules)
