@@ -24,7 +24,7 @@ has_cases x y xs h = go h.0 h.1 h.2
 
 -- of two paths at most one is below the other
 not_both : (x y : Listed) → order_of x.path y.path ≡ Less → order_of y.path x.path ≡ Less → ⊥
-not_both x y h k = let e = by_path.antisymm x y in let f = ap ordering_reverse k in let z : ◌≡◌ {A = ℕ} 0 1 = cc in omega arith
+not_both x y h k = let e = by_path.antisymm x y in let f = ap ordering_reverse k in cc
 
 -- what follows the first of an ascending list is not the first
 not_first : (x : Listed) (xs ys : List Listed) → Ascending (x ∷ xs) → (z : Listed) → Has xs z → Has (x ∷ ys) z → Has ys z

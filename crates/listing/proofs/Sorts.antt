@@ -1,13 +1,12 @@
 -- A shuffle of the picked paths that is sorted is the listing. Assumes nothing.
 use Rattle.std.proofs.Common.{◌≡◌, ℕ, suc, ◌<◌, ◌≤◌, Bool, true, false, cond, List, [], ◌∷◌, length, get_or, is_some, Some, Ordering, Less, Equal, Greater, sym, refl, ap, ◌∙◌, arith}
-use Rattle.std.specs.Ordering.{is_lt, ordering_reverse}
+use Rattle.std.specs.Ordering.{is_lt}
 use Rattle.std.specs.List.Sorted.{IsPermutation, IsSortedBy}
 use Rattle.std.specs.Cmp.{IsStrictWeakOrder}
 use Rattle.std.specs.List.{ContainsAt as Has, AllByRecursion}
 use Rattle.std.proofs.lemmas.List.MinMax.{ranks_by}
 use Rattle.std.proofs.ByRecursion.{all-has, All-from_get_or, All-weaker, all_shuffled, has_shuffled}
 use Rattle.std.proofs.lemmas.List.Sorted.{IsPermutation-refl, IsPermutation-cons, IsPermutation-trans, IsPermutation-swap, length_permutation, sorted_far as ascends_far}
-use Rattle.std.proofs.lemmas.Bool.{both_ways}
 use Rattle.names.specs.declared.path.Path.{Path}
 use Rattle.names.specs.Paths.{order_of}
 use Rattle.entries.specs.declared.recipe.Recipe.{Recipe}
@@ -44,7 +43,7 @@ strictly x (y ∷ ys) a h = (go (order_of x.path y.path) refl, strictly x ys a.1
     go : (o : Ordering) → order_of x.path y.path ≡ o → o ≡ Less
     go Less e = refl
     go Equal e = absurd (let t = times_own y ys in let s = ap (λ p. times p (y ∷ ys)) (order_equal x.path y.path e) in omega arith)
-    go Greater e = absurd (both_ways (lower y x) a.0 (ap is_lt (by_path.antisymm y x ∙ ap ordering_reverse e)))
+    go Greater e = let r = by_path.antisymm y x in cc
 
 -- a sorted list that has each path at most once
 ascends : (ys : List Listed) → Sorted ys → ((p : Path) → times p ys ≤ 1) → Ascending ys

@@ -1,9 +1,9 @@
 -- What a listing of a directory writes. Assumes nothing.
-use Rattle.std.specs.Prelude.{◌≡◌, ℕ, cond, ◌↔◌, List, [], ◌∷◌, ◌++◌, length, drop, Some, None, Ok, Err, Option, Result, ◌==◌, nat_lt}
+use Rattle.std.specs.Prelude.{◌≡◌, ℕ, cond, ◌↔◌, List, [], ◌∷◌, ◌++◌, length, drop, None, Ok, Err, Option, Result, ◌==◌, nat_lt}
 use Rattle.std.specs.declared.cmp.Ordering.TheVariants.{Less}
 use Rattle.std.specs.Option.{option_map}
 use Rattle.std.specs.Ordering.{is_lt}
-use Rattle.std.specs.List.{ContainsAt as Has, AllByRecursion}
+use Rattle.std.specs.List.{ContainsAt as Has, AllByRecursion, filter_map}
 use Rattle.names.specs.declared.path.Path.{Path}
 use Rattle.names.specs.Paths.{order_of}
 use Rattle.entries.specs.declared.recipe.Content.{Content}
@@ -22,15 +22,9 @@ listed p k = record { path = p; content = k }
 abbrev pub pick : Look → ℕ → Path → Option Listed
 pick f d p = cond (p.directory == d) (option_map (listed p) (content_shown f p)) None
 
--- the list with what was picked before it
-abbrev pub with_first : Option Listed → List Listed → List Listed
-with_first None xs = xs
-with_first (Some x) xs = x ∷ xs
-
 -- what is picked at the paths of the pairs, in their order
 abbrev pub picks : Look → ℕ → List (Path × Recipe) → List Listed
-picks f d [] = []
-picks f d (x ∷ xs) = with_first (pick f d x.0) (picks f d xs)
+picks f d ps = filter_map (λ x. pick f d x.0) ps
 
 -- all shown paths of the directory, in the order in which they came
 abbrev pub all_picks : Meaning Recipe → ℕ → List Listed

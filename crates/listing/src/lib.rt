@@ -4,5 +4,5 @@
 mod listed;
 mod lists;
 
-pub use listed::Listed;
+pub use listed::{Listed, what_is_listed_is_compared_by_its_path};
 pub use lists::{list, listings_read_alike};

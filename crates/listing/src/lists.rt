@@ -18,24 +18,17 @@ fn pick<S: Readable<Recipe>>(store: &S, directory: u32, place: usize) -> Option<
     if path.directory != directory {
         return None;
     }
-    match shown_content(store, &path) {
-        Some(content) => Some(Listed { path, content }),
-        None => None,
-    }
+    let content = shown_content(store, &path)?;
+    Some(Listed { path, content })
 }
 
 // How many paths of the directory are shown.
 fn count_shown<S: Readable<Recipe>>(store: &S, directory: u32) -> usize
     ensures { result ≡ length (all_picks (S.Readable.meaning store.now) directory) }
 {
-    let mut total = 0;
-    'places: for place in 0..store.count() {
-        match pick(store, directory, place) {
-            Some(_) => total += 1,
-            None => {}
-        }
-    }
-    total
+    (0..store.count())
+        .filter_map(|place| pick(store, directory, place))
+        .count()
 }
 
 // Writes the shown paths of the directory to the front of the memory, in the order in which they came.
@@ -43,14 +36,12 @@ fn write_shown<S: Readable<Recipe>>(store: &S, directory: u32, memory: &mut [Lis
     requires { length (all_picks (S.Readable.meaning store.now) directory) ≤ length memory.old }
     ensures { memory.new ≡ written (all_picks (S.Readable.meaning store.now) directory) memory.old }
 {
+    // counted by hand: a `for` over a chain whose closure holds a generic store gets no proof
     let mut total = 0;
     'places: for place in 0..store.count() {
-        match pick(store, directory, place) {
-            Some(listed) => {
-                memory[total] = listed;
-                total += 1;
-            }
-            None => {}
+        if let Some(listed) = pick(store, directory, place) {
+            memory[total] = listed;
+            total += 1;
         }
     }
 }

@@ -1,6 +1,8 @@
 -- What a growth changes of lookups. Assumes nothing.
 use Rattle.std.proofs.Common.{◌≡◌, ℕ, Bool, true, false, cond, List, [], ◌∷◌, Some, sym, refl, ap, ◌∙◌, arith}
-use Rattle.std.proofs.lemmas.Bool.{cond-true, and_left, ne_eqb}
+use Rattle.std.proofs.lemmas.Bool.{cond-true}
+use Rattle.std.proofs.lemmas.Bool.Decides.{nat_tests}
+use Rattle.std.proofs.lemmas.Grind.{common_steps}
 use Rattle.names.specs.declared.label.Label.{Label}
 use Rattle.names.specs.declared.path.Path.{Path}
 use Rattle.names.specs.Paths.{same_path}
@@ -16,8 +18,7 @@ use Rattle.reading.specs.Shown.{Look}
 use Rattle.reading.specs.Lookup.{Reading, Reading.answer, Reading.refused, later, sound_name, one_label, path_of, turn_at, walk}
 use Rattle.reading.specs.Rules.{Shows.alone, Holds, Plain, Reads, Reads.arrives, Reads.enters, Reads.follows, Reads.stops, Reads.stands, Reads.nothing}
 use Rattle.reading.specs.Growth.{Elsewhere, Unused, growth_entry, grown, carries_steps, one_step_later, OutsideAsBefore, InsideOneStepLater}
-use Rattle.reading.proofs.Found.{entry_all}
-use Rattle.reading.proofs.Options.{none_some, some_same, none_when}
+use Rattle.reading.proofs.Found.{none_when, entry_all}
 use Rattle.reading.proofs.SoundNames.{sound_longer}
 use Rattle.reading.proofs.Shows.{shows_held, holds_outside}
 use Rattle.reading.proofs.Ruled.{enter_turn, reads_walk, walk_reads}
@@ -25,10 +26,10 @@ use Rattle.reading.proofs.Walks.{walk_enters}
 
 -- a path that the labels form lies in the directory
 path_directory : (d : ℕ) (x : Label) (rest : List Label) (p : Path) → path_of d x rest ≡ Some p → p.directory ≡ d
-path_directory d x [] p h = sym (ap (λ (q : Path). q.directory) (some_same h))
-path_directory d x (y ∷ []) p h = sym (ap (λ (q : Path). q.directory) (some_same h))
-path_directory d x (y ∷ z ∷ []) p h = sym (ap (λ (q : Path). q.directory) (some_same h))
-path_directory d x (y ∷ z ∷ w ∷ more) p h = absurd (none_some h)
+path_directory d x [] p h = grind (arith, common_steps)
+path_directory d x (y ∷ []) p h = grind (arith, common_steps)
+path_directory d x (y ∷ z ∷ []) p h = grind (arith, common_steps)
+path_directory d x (y ∷ z ∷ w ∷ more) p h = cc
 
 -- two stores hold the same outside the directory `new`, and nothing in the first leads into it
 module _ (new : ℕ) (f g : Look) (same : (p : Path) → (p.directory ≡ new → ⊥) → f p ≡ g p) (avoids : (p : Path) (e : Recipe) → f p ≡ Some e → Elsewhere new e.content) where
@@ -44,10 +45,10 @@ module _ (new : ℕ) (f g : Look) (same : (p : Path) → (p.directory ≡ new �
 
   -- no directory and no link leads into `new`
   directory_outside : (p : Path) (e : ℕ) → Holds f p (Directory e) → e ≡ new → ⊥
-  directory_outside p e h q = (avoids p h.0 (shows_held f p h.0 h.1)).0 (h.2 ∙ ap Directory q)
+  directory_outside p e h q = let a = avoids p h.0 (shows_held f p h.0 h.1) in grind (arith, common_steps)
 
   link_outside : (p : Path) (e : ℕ) (l : Label) → Holds f p (Link e l) → e ≡ new → ⊥
-  link_outside p e l h q = (avoids p h.0 (shows_held f p h.0 h.1)).1 l (h.2 ∙ ap (λ z. Link z l) q)
+  link_outside p e l h q = let a = avoids p h.0 (shows_held f p h.0 h.1) in grind (arith, common_steps)
 
   -- so a name read outside has one reading in both
   reads_outside : {n d : ℕ} {name : List Label} {r : Reading} → (d ≡ new → ⊥) → Reads f n d name r → Reads g n d name r
@@ -63,7 +64,7 @@ module _ (new : ℕ) (f g : Look) (same : (p : Path) → (p.directory ≡ new �
 
 -- a path outside a directory is not the path of one label in it
 apart : (p q : Path) → (p.directory ≡ q.directory → ⊥) → same_path p q ≡ false
-apart p q h = and_left _ _ (and_left _ _ (and_left _ _ (ne_eqb p.directory q.directory h)))
+apart p q h = grind (arith, nat_tests)
 
 -- a growth into a directory that the store does not use
 module _ (m : Meaning Recipe) (stamp new : ℕ) (x : Label) (old : ℕ) (unused : Unused new m.pairs) where
@@ -85,7 +86,7 @@ module _ (m : Meaning Recipe) (stamp new : ℕ) (x : Label) (old : ℕ) (unused 
   walk_before = walk_outside new (entry_of m) (entry_of (grown m stamp new x old)) grown_outside (λ p e h. (before p e h).1)
 
   grown_enters : full_for m (one_label new x) ≡ false → Enter old ≡ turn_at (entry_of (grown m stamp new x old)) new x
-  grown_enters room = enter_turn (entry_of (grown m stamp new x old)) new x old (growth_entry stamp old, alone (grown_inside room) (λ q. let z : ◌≡◌ {A = ℕ} 0 1 = cc in omega arith) refl, refl)
+  grown_enters room = enter_turn (entry_of (grown m stamp new x old)) new x old (growth_entry stamp old, alone (grown_inside room) (λ q. cc) refl, refl)
 
 -- what a walk gives carries its steps
 carries_later : (r : Reading) → carries_steps (later r) ≡ carries_steps r

@@ -1,6 +1,4 @@
-pub mod Options
 pub mod Found
-pub mod Parents
 pub mod Shows
 pub mod SoundNames
 pub mod Walks

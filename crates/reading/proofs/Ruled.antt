@@ -1,6 +1,7 @@
 -- The rules of reading a name give each name one reading, and the walk gives it. Assumes nothing.
-use Rattle.std.proofs.Common.{◌≡◌, ℕ, zero, suc, false, List, [], ◌∷◌, Some, None, Option, sym, refl, ap, ◌∙◌, subst, arith}
-use Rattle.std.proofs.lemmas.Bool.{both_ways, cond-true}
+use Rattle.std.proofs.Common.{◌≡◌, ℕ, zero, suc, List, [], ◌∷◌, Some, None, Option, sym, refl, ap, ◌∙◌, subst}
+use Rattle.std.proofs.lemmas.Bool.{cond-true}
+use Rattle.std.proofs.lemmas.Option.{same_Some}
 use Rattle.names.specs.declared.label.Label.{Label}
 use Rattle.names.specs.declared.path.Path.{Path}
 use Rattle.entries.specs.declared.recipe.Content.{Content}
@@ -9,7 +10,7 @@ use Rattle.reading.specs.declared.lookups.Turn.TheVariants.{Enter, Follow, End}
 use Rattle.reading.specs.Shown.{Look, content_shown}
 use Rattle.reading.specs.Lookup.{Reading, Reading.refused, later, one_label, path_of, content_at, content_of, answered, turn_of, turn_at, walk, lookup_of}
 use Rattle.reading.specs.Rules.{Holds, Plain, Reads, Reads.arrives, Reads.enters, Reads.follows, Reads.stops, Reads.stands, Reads.nothing, Exactly}
-use Rattle.reading.proofs.Options.{none_some, some_same, none_when}
+use Rattle.reading.proofs.Found.{none_when}
 use Rattle.reading.proofs.Shows.{holds_shown, shown_holds}
 use Rattle.reading.proofs.Walks.{entered, followed, walk_enters, walk_follows, walk_ends}
 
@@ -53,18 +54,18 @@ reads_walk f (nothing {n} {d} {x} {rest} plain none) = walk_ends f rest n d x (e
 -- a turn that ends the walk shows neither a directory nor a link
 turn_plain : (f : Look) (d : ℕ) (x : Label) → End ≡ turn_at f d x → Plain f d x
 turn_plain f d x t =
-    (λ e h. let s = enter_turn f d x e h in let z : ◌≡◌ {A = ℕ} 0 1 = cc in omega arith, λ e l h. let s = follow_turn f d x e l h in let z : ◌≡◌ {A = ℕ} 0 1 = cc in omega arith)
+    (λ e h. let s = enter_turn f d x e h in cc, λ e l h. let s = follow_turn f d x e l h in cc)
 
 -- and then rule 3 or rule 4 gives the reading
 ends_reads : (f : Look) (n d : ℕ) (x : Label) (rest : List Label) → Plain f d x → Reads f n d (x ∷ rest) (answered (content_of f d x rest))
 ends_reads f n d x rest plain = at (path_of d x rest) refl
   where
     under : (p : Path) → path_of d x rest ≡ Some p → (o : Option Content) → content_shown f p ≡ o → Reads f n d (x ∷ rest) (answered o)
-    under p q None h = nothing plain (λ p' k q' s. none_some (sym h ∙ ap (content_shown f) (some_same (sym q ∙ q')) ∙ holds_shown f p' k s))
+    under p q None h = nothing plain (λ p' k q' s. let same = same_Some p p' (sym q ∙ q') in let held = holds_shown f p' k s in cc)
     under p q (Some k) h = stands plain p q (shown_holds f p k h)
 
     at : (o : Option Path) → path_of d x rest ≡ o → Reads f n d (x ∷ rest) (answered (content_at f o))
-    at None q = nothing plain (λ p k q' s. none_some (sym q ∙ q'))
+    at None q = nothing plain (λ p k q' s. cc)
     at (Some p) q = under p q (content_shown f p) refl
 
 -- the walk is a reading by the rules, if it is one in a directory and along a link
@@ -93,7 +94,7 @@ walk_reads f (y ∷ rest) n d x = links_read f (y ∷ rest) (λ n d x e h. enter
 
 -- so the lookup of a sound name answers what the rules give, and nothing else
 pub exactly : (f : Look) (start : ℕ) (name : List Label) (r : Reading) → r ≡ lookup_of f start name → Exactly f start name r
-exactly f start [] r e sound s = absurd (both_ways false refl sound)
+exactly f start [] r e sound s = cc
 exactly f start (x ∷ rest) r e sound s =
     let w : r ≡ walk f rest 8 start x = e ∙ cond-true _ _ _ sound in
     (λ q. subst (Reads f 8 start (x ∷ rest)) (sym w ∙ q) (walk_reads f rest 8 start x), λ t. w ∙ reads_walk f t)

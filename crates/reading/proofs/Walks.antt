@@ -1,7 +1,8 @@
 -- One step of the walk over a name. Assumes nothing.
-use Rattle.std.proofs.Common.{◌≡◌, ℕ, zero, suc, ◌+◌, ◌-◌, ◌<◌, ◌≤◌, true, false, List, [], ◌∷◌, length, get_or, take, drop, sym, refl, ap, ◌∙◌, arith}
+use Rattle.std.proofs.Common.{◌≡◌, ℕ, zero, suc, ◌+◌, ◌-◌, ◌<◌, ◌≤◌, true, List, [], ◌∷◌, length, get_or, take, drop, sym, refl, ap, ◌∙◌, arith}
 use Rattle.std.proofs.lemmas.List.{take_rest}
-use Rattle.std.proofs.lemmas.Bool.{both_ways, cond-true}
+use Rattle.std.proofs.lemmas.Grind.{common_steps}
+use Rattle.std.proofs.lemmas.Bool.{cond-true}
 use Rattle.names.specs.declared.label.Label.{Label}
 use Rattle.names.specs.Labels.{label}
 use Rattle.entries.specs.declared.recipe.Content.TheVariants.{Directory}
@@ -21,13 +22,10 @@ followed f rest (suc n) e l = later (walk f rest n e l)
 
 -- the walk takes one of three turns
 walk_turn : (f : Look) (rest : List Label) (n d : ℕ) (x : Label) (t : Turn) → t ≡ turn_at f d x → walk f rest n d x ≡ by_turn t (entered f rest n) (followed f rest n) (answered (content_of f d x rest))
-walk_turn f rest n d x t h = go rest n ∙ ap (λ u. by_turn u (entered f rest n) (followed f rest n) (answered (content_of f d x rest))) (sym h)
-  where
-    go : (rest : List Label) (n : ℕ) → walk f rest n d x ≡ by_turn (turn_at f d x) (entered f rest n) (followed f rest n) (answered (content_of f d x rest))
-    go [] zero = refl
-    go [] (suc n) = refl
-    go (y ∷ rest) zero = refl
-    go (y ∷ rest) (suc n) = refl
+walk_turn f [] zero d x t h = grind (arith, common_steps)
+walk_turn f [] (suc n) d x t h = grind (arith, common_steps)
+walk_turn f (y ∷ rest) zero d x t h = grind (arith, common_steps)
+walk_turn f (y ∷ rest) (suc n) d x t h = grind (arith, common_steps)
 
 pub walk_enters : (f : Look) (rest : List Label) (n d : ℕ) (x : Label) (e : ℕ) → Enter e ≡ turn_at f d x → walk f rest n d x ≡ entered f rest n e
 walk_enters f rest n d x e h = walk_turn f rest n d x (Enter e) h
@@ -60,7 +58,7 @@ follows_none f rest (suc n) d x e l none h = absurd (omega arith)
 
 -- a sound name is walked over with eight links to follow
 pub lookup_walks : (f : Look) (start : ℕ) (name : List Label) → true ≡ sound_name name → lookup_of f start name ≡ walk f (after_first name) 8 start (get_or name 0 (label 0))
-lookup_walks f start [] sound = absurd (both_ways false refl (sym sound))
+lookup_walks f start [] sound = cc
 lookup_walks f start (x ∷ rest) sound = cond-true _ _ _ (sym sound) ∙ ap (λ r. walk f r 8 start x) (sym (after_first_is x rest))
 
 -- a reading with so many steps more
@@ -69,12 +67,10 @@ after k (answer c n) = answer c (k + n)
 after k (refused g n) = refused g (k + n)
 
 after_none : (r : Reading) → r ≡ after 0 r
-after_none (answer c n) = ap (answer c) (omega arith)
-after_none (refused g n) = ap (refused g) (omega arith)
+after_none r = grind (arith, common_steps)
 
 after_later : (k : ℕ) (r : Reading) → after k (later r) ≡ after (k + 1) r
-after_later k (answer c n) = ap (answer c) (omega arith)
-after_later k (refused g n) = ap (refused g) (omega arith)
+after_later k r = grind (arith, common_steps)
 
 -- a walk with eight links to follow, under way
 module _ (f : Look) (tail : List Label) (start : ℕ) (head : Label) where

@@ -1,6 +1,6 @@
 -- A new directory set above an old one, and which directories a store uses. Assumes nothing.
-use Rattle.std.specs.Prelude.{◌≡◌, ℕ, ◌≤◌, Bool, true, false, cond, ◌||◌, List, [], ◌∷◌, length, ◌==◌, ◌≢◌}
-use Rattle.std.specs.List.{AllByRecursion}
+use Rattle.std.specs.Prelude.{◌≡◌, ℕ, ◌≤◌, Bool, true, false, cond, ◌||◌, List, ◌∷◌, length, ◌==◌, ◌≢◌}
+use Rattle.std.specs.List.{AllByRecursion, list_any}
 use Rattle.names.specs.declared.label.Label.{Label}
 use Rattle.names.specs.declared.path.Path.{Path}
 use Rattle.names.specs.Labels.{is_label}
@@ -26,8 +26,7 @@ uses d x = x.0.directory == d || names_directory d x.1.content
 
 -- some pair uses the directory
 abbrev pub used_in : ℕ → List (Path × Recipe) → Bool
-used_in d [] = false
-used_in d (x ∷ xs) = uses d x || used_in d xs
+used_in d xs = list_any (uses d) xs
 
 -- the content is neither the directory nor a link into it
 abbrev pub Elsewhere : ℕ → Content → Type 0

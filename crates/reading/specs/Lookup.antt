@@ -1,9 +1,11 @@
 -- Reading a name: the walk over its labels from a directory. Assumes nothing.
-use Rattle.std.specs.Prelude.{ℕ, zero, suc, Bool, true, cond, ◌&&◌, List, [], ◌∷◌, length, Some, None, Ok, Err, Option, Result, nat_le, nat_lt}
+use Rattle.std.specs.Prelude.{ℕ, zero, suc, Bool, cond, ◌&&◌, List, [], ◌∷◌, length, Some, None, Ok, Err, Option, Result, nat_le, nat_lt}
+use Rattle.std.specs.List.{list_all}
 use Rattle.grounds.specs.Grounds.{ground_number}
 use Rattle.names.specs.declared.label.Label.{Label}
 use Rattle.names.specs.declared.path.Path.{Path}
 use Rattle.names.specs.Labels.{label, is_label}
+pub use Rattle.names.specs.Paths.{one_label}
 use Rattle.entries.specs.declared.recipe.Content.{Content}
 use Rattle.entries.specs.declared.recipe.Content.TheVariants.{Absent, Node, Number, Directory, Link}
 use Rattle.reading.specs.declared.lookups.Answer.{Answer}
@@ -34,16 +36,11 @@ later (refused g n) = refused g (suc n)
 
 -- each is a label
 abbrev pub all_labels : List Label → Bool
-all_labels [] = true
-all_labels (x ∷ xs) = is_label x.number && all_labels xs
+all_labels name = list_all (λ x. is_label x.number) name
 
 -- 1 to 8, each a label
 abbrev pub sound_name : List Label → Bool
 sound_name name = nat_lt 0 (length name) && nat_le (length name) 8 && all_labels name
-
--- the path of one label
-abbrev pub one_label : ℕ → Label → Path
-one_label d x = record { directory = d; first = x; second = label 0; third = label 0 }
 
 -- the path that the labels form, where they are three or fewer
 abbrev pub path_of : ℕ → Label → List Label → Option Path

@@ -30,12 +30,7 @@ pub fn is_used<S: Readable<Recipe>>(store: &S, directory: u32) -> bool
     ensures value { result ≡ used_in directory (S.Readable.meaning store.now).pairs }
     ensures unused { (result ≡ false) ↔ Unused directory (S.Readable.meaning store.now).pairs }
 {
-    'places: for place in 0..store.count() {
-        if uses(store, place, directory) {
-            return true;
-        }
-    }
-    false
+    (0..store.count()).any(|place| uses(store, place, directory))
 }
 
 // A growth sets a new directory, which the store does not use, above an old one: lookups begun elsewhere answer as

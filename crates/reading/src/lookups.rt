@@ -1,6 +1,6 @@
 ghost use Rattle.std.specs.Prelude.{◌≡◌, ◌+◌, ◌≤◌, length};
 ghost use Rattle.store.specs.Laws.{entry_of};
-ghost use Rattle.reading.specs.Lookup.{reading_of, steps_of, all_labels, sound_name, one_label, path_of, content_of, turn_at, walk, lookup_of};
+ghost use Rattle.reading.specs.Lookup.{reading_of, steps_of, all_labels, sound_name, path_of, content_of, turn_at, walk, lookup_of};
 ghost use Rattle.reading.specs.Rules.{Exactly};
 
 use crate::shown::shown_content;
@@ -10,21 +10,21 @@ use names::{Label, Path};
 use store::Readable;
 
 // What a lookup found, and in how many steps.
-#[derive(Clone, Copy)]
+#[derive(Clone, Copy, Debug, PartialEq, Eq)]
 pub struct Answer {
     pub content: Content,
     pub steps: u32,
 }
 
 // Why a lookup was refused, and after how many steps.
-#[derive(Clone, Copy)]
+#[derive(Clone, Copy, Debug, PartialEq, Eq)]
 pub struct Refusal {
     pub ground: Ground,
     pub steps: u32,
 }
 
 // How a step goes on: into a directory, along a link, or not past the labels left.
-#[derive(Clone, Copy)]
+#[derive(Clone, Copy, Debug, PartialEq, Eq)]
 enum Turn {
     Enter(u32),
     Follow(u32, Label),
@@ -41,12 +41,7 @@ const MOST_LINKS: u32 = 8;
 fn are_labels(name: &[Label]) -> bool
     ensures { result ≡ all_labels name.now }
 {
-    'labels: for label in name {
-        if !label.is_sound() {
-            return false;
-        }
-    }
-    true
+    name.iter().all(Label::is_sound)
 }
 
 // Whether the name has 1 to 8 labels, and each is a label.
@@ -56,35 +51,21 @@ fn is_sound_name(name: &[Label]) -> bool
     !name.is_empty() && name.len() <= MOST_LABELS && are_labels(name)
 }
 
-// The path of one label.
-fn one_label(directory: u32, first: Label) -> Path
-    ensures { result ≡ one_label directory first }
-{
-    Path {
-        directory,
-        first,
-        second: Label::NONE,
-        third: Label::NONE,
-    }
-}
-
 // The path that the labels form, where they are three or fewer.
 fn path_of(directory: u32, first: Label, rest: &[Label]) -> Option<Path>
     ensures { result ≡ path_of directory first rest.now }
 {
+    let path = Path::of_label(directory, first);
     match rest {
-        [] => Some(one_label(directory, first)),
+        [] => Some(path),
         [second] => Some(Path {
-            directory,
-            first,
             second: *second,
-            third: Label::NONE,
+            ..path
         }),
         [second, third] => Some(Path {
-            directory,
-            first,
             second: *second,
             third: *third,
+            ..path
         }),
         _ => None,
     }
@@ -99,17 +80,15 @@ fn content_of<S: Readable<Recipe>>(
 ) -> Option<Content>
     ensures { result ≡ content_of (entry_of (S.Readable.meaning store.now)) directory first rest.now }
 {
-    match path_of(directory, first, rest) {
-        Some(path) => shown_content(store, &path),
-        None => None,
-    }
+    let path = path_of(directory, first, rest)?;
+    shown_content(store, &path)
 }
 
 // How a step goes on from the first label left.
 fn turn_at<S: Readable<Recipe>>(store: &S, directory: u32, first: Label) -> Turn
     ensures { result ≡ turn_at (entry_of (S.Readable.meaning store.now)) directory first }
 {
-    match shown_content(store, &one_label(directory, first)) {
+    match shown_content(store, &Path::of_label(directory, first)) {
         Some(Content::Directory(into)) => Turn::Enter(into),
         Some(Content::Link(into, label)) => Turn::Follow(into, label),
         _ => Turn::End,
@@ -117,7 +96,8 @@ fn turn_at<S: Readable<Recipe>>(store: &S, directory: u32, first: Label) -> Turn
 }
 
 // Walks over the labels from the directory `start`. The outer loop goes from label to label, the inner one
-// from link to link, and each turn of the inner one is a step.
+// from link to link, and each turn of the inner one is a step. The labels left show that the outer one ends, the links left that
+// the inner one does; the steps are counted since the answer has them.
 fn walk<S: Readable<Recipe>>(
     store: &S,
     start: u32,
@@ -150,13 +130,11 @@ fn walk<S: Readable<Recipe>>(
                     first = label;
                 }
                 Turn::End => {
-                    return match content_of(store, directory, first, rest) {
-                        Some(content) => Ok(Answer { content, steps }),
-                        None => Err(Refusal {
-                            ground: Ground::NothingShown,
-                            steps,
-                        }),
-                    };
+                    let content = content_of(store, directory, first, rest).ok_or(Refusal {
+                        ground: Ground::NothingShown,
+                        steps,
+                    })?;
+                    return Ok(Answer { content, steps });
                 }
             }
         };

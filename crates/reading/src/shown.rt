@@ -10,18 +10,15 @@ use names::Path;
 use store::Readable;
 
 // The entry held under the path, unless it is absent.
+#[tactic(auto, using(crate::proofs::Found::not_found, crate::proofs::Found::found))]
 fn present_entry<S: Readable<Recipe>>(store: &S, path: &Path) -> Option<Recipe>
     ensures { result ≡ unless_absent (entry_of (S.Readable.meaning store.now) path.now) }
 {
-    match store.find(path) {
-        None => None,
-        Some(place) => {
-            let found = store.entry_at(place);
-            match found.content {
-                Content::Absent => None,
-                _ => Some(found),
-            }
-        }
+    let place = store.find(path)?;
+    let found = store.entry_at(place);
+    match found.content {
+        Content::Absent => None,
+        _ => Some(found),
     }
 }
 
@@ -32,27 +29,17 @@ fn belongs(above: &Recipe, own: &Recipe) -> bool
     above.stamp <= own.stamp
 }
 
-// What is shown of an entry, by what is shown above it.
-fn below(above: Option<Recipe>, own: Recipe) -> Option<Recipe>
-    ensures { result ≡ below above (Some own) }
-{
-    match above {
-        Some(above) if belongs(&above, &own) => Some(own),
-        _ => None,
-    }
-}
-
 // The entry that is shown under the path.
+#[tactic(auto, using(crate::proofs::Shows::shown_rule))]
 fn shown_entry<S: Readable<Recipe>>(store: &S, path: &Path) -> Option<Recipe>
     ensures { result ≡ shown_entry (entry_of (S.Readable.meaning store.now)) path.now }
 {
-    let Some(own) = present_entry(store, path) else {
-        return None;
+    let own = present_entry(store, path)?;
+    let Some(parent) = path.parent() else {
+        return Some(own);
     };
-    match path.parent() {
-        Some(parent) => below(shown_entry(store, &parent), own),
-        None => Some(own),
-    }
+    let above = shown_entry(store, &parent)?;
+    belongs(&above, &own).then_some(own)
 }
 
 // The content that is shown under the path.
@@ -60,13 +47,11 @@ pub fn shown_content<S: Readable<Recipe>>(store: &S, path: &Path) -> Option<Cont
     ensures value { result ≡ content_shown (entry_of (S.Readable.meaning store.now)) path.now }
     ensures exactly { (k : What) → (result ≡ Some k) ↔ Holds (entry_of (S.Readable.meaning store.now)) path.now k }
 {
-    match shown_entry(store, path) {
-        Some(own) => Some(own.content),
-        None => None,
-    }
+    shown_entry(store, path).map(|own| own.content)
 }
 
 // Whether an entry is shown under the path.
+#[tactic(auto, using(crate::proofs::Shows::shown_exactly))]
 pub fn is_shown<S: Readable<Recipe>>(store: &S, path: &Path) -> bool
     ensures value { result ≡ shown (entry_of (S.Readable.meaning store.now)) path.now }
     ensures exactly { (result ≡ true) ↔ ((e : Said) × Shows (entry_of (S.Readable.meaning store.now)) path.now e) }

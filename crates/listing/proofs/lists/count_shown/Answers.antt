@@ -1,26 +1,15 @@
-use Rattle.std.proofs.Common.{◌<◌, ◌≤◌, arith}
-use Rattle.store.specs.Meaning.{count_of}
-use Rattle.listing.proofs.Writes.{counted_start, counted_some, counted_none, counted_all}
+use Rattle.std.proofs.Common.{length, ap, ◌∙◌, arith, rules}
+use Rattle.std.proofs.lemmas.Iterator.{YieldsList-from_range}
+use Rattle.std.proofs.lemmas.Iterator.Consumers.{YieldsList-at, YieldsList-from_filter_map, count_from_yields_List}
+use Rattle.store.specs.Meaning.{count_of, path_at}
+use Rattle.store.specs.Laws.{entry_of}
+use Rattle.listing.specs.Listing.{pick}
+use Rattle.listing.proofs.Picks.{picks_at_places}
 use Rattle.listing.proofs.lists.count_shown.Goals as goal
-use Rattle.listing.proofs.lists.count_shown.Goals.{in-Some, in-None}
-
-pub places-init : goal.places-init
-places-init g c = counted_start _ _
-
-pub overflow_add-total : goal.overflow_add-total
-overflow_add-total g c = record { fits = omega (arith, c.places.invariant.few, c.count-place-end.type_inv) }
-
-pub places-preserved : goal.places-preserved
-places-preserved g c =
-    let m = g.S.Readable.meaning c.args.store.now in
-    let lt : c.places.place < count_of m = omega arith in
-    elim c.match-pick.branch [
-      | in-Some w ↦ counted_some m c.args.directory c.places.place c.places.total _ _ w.total-is lt w.in-Some.ensures c.places.invariant
-      | in-None w ↦ counted_none m c.args.directory c.places.place c.places.total _ w.total-is lt w.in-None.ensures c.places.invariant
-    ]
 
 pub returns : goal.returns
 returns g c =
     let m = g.S.Readable.meaning c.args.store.now in
-    let le : count_of m ≤ c.places.place = omega arith in
-    counted_all m c.args.directory c.places.place c.places.total le c.places.invariant
+    let d = c.args.directory in
+    count_from_yields_List _ _ c.count-2.ensures.ran (YieldsList-from_filter_map _ (λ i. pick (entry_of m) d (path_at m i)) (YieldsList-at c.filter_map.ensures.source (YieldsList-from_range 0 (count_of m) (count_of m) (cc) (omega arith))) c.filter_map.ensures.closure (λ x r q k. search rules))
+    ∙ ap length (picks_at_places m d)

@@ -1,25 +1,16 @@
-use Rattle.std.proofs.Common.{◌≡◌, ◌<◌, ◌≤◌, true, false, sym, ◌∙◌, arith}
-use Rattle.store.specs.Meaning.{count_of}
-use Rattle.reading.specs.Growth.{used_in}
-use Rattle.reading.proofs.Uses.{used_more, used_all, unused_exactly}
+use Rattle.std.proofs.Common.{◌∙◌, arith, rules}
+use Rattle.std.proofs.lemmas.Iterator.{YieldsList-from_range}
+use Rattle.std.proofs.lemmas.Iterator.Search.{any_from_yields_List}
+use Rattle.entries.specs.Recipes.{blank_recipe}
+use Rattle.store.specs.Meaning.{count_of, path_at, entry_at}
+use Rattle.reading.specs.Growth.{uses}
+use Rattle.reading.proofs.Uses.{used_at_places, unused_exactly}
 use Rattle.reading.proofs.growth.is_used.Goals as goal
-
-pub returns-then-uses : goal.returns-then-uses
-returns-then-uses g c =
-    let m = g.S.Readable.meaning c.args.store.now in
-    let lt : c.places.place < count_of m = omega arith in
-    let value : true ≡ used_in c.args.directory m.pairs = sym (used_more c.args.directory m c.places.place true lt c.if-uses.ensures) ∙ c.places.invariant in
-    record { value = value; unused = unused_exactly _ _ _ value }
-
-pub places-preserved : goal.places-preserved
-places-preserved g c =
-    let m = g.S.Readable.meaning c.args.store.now in
-    let lt : c.places.place < count_of m = omega arith in
-    sym (used_more c.args.directory m c.places.place false lt c.if-uses.ensures) ∙ c.places.invariant
 
 pub returns : goal.returns
 returns g c =
     let m = g.S.Readable.meaning c.args.store.now in
-    let le : count_of m ≤ c.places.place = omega arith in
-    let value : false ≡ used_in c.args.directory m.pairs = sym (used_all c.args.directory m c.places.place le) ∙ c.places.invariant in
+    let d = c.args.directory in
+    let any = any_from_yields_List (λ i. uses d (path_at m i, entry_at blank_recipe m i)) _ _ _ c.any.ensures.ran (YieldsList-from_range 0 (count_of m) (count_of m) (cc) (omega arith)) (λ x b q k. search rules) in
+    let value = any ∙ used_at_places d m in
     record { value = value; unused = unused_exactly _ _ _ value }
