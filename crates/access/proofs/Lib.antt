@@ -1,2 +1,0 @@
-pub mod Roles
-pub mod Guards

@@ -3,12 +3,12 @@ use Rattle.std.specs.Prelude.{ℕ, Bool, false, not, ◌&&◌, ◌||◌, [], ◌
 use Rattle.names.specs.declared.label.Label.{Label}
 use Rattle.names.specs.declared.path.Path.{Path}
 use Rattle.names.specs.Labels.{label, packed}
+use Rattle.names.specs.Paths.{one_label}
 use Rattle.entries.specs.declared.recipe.Recipe.{Recipe}
 use Rattle.entries.specs.declared.rights.Rights.{Rights}
 use Rattle.entries.specs.Rights.{is_granted}
 use Rattle.store.specs.Meaning.{full_for}
 use Rattle.store.specs.Laws.{entry_of}
-use Rattle.reading.specs.Lookup.{one_label}
 use Rattle.machine.specs.States.{State, Grounds, store_of, settled, no_copy}
 use Rattle.machine.specs.Posts.{unsound, foreign, late, posted}
 use Rattle.ring.specs.Recipes.{recipes}

@@ -27,22 +27,14 @@ pub fn access_path(directory: u32) -> Path
     ensures value { result ≡ access_path directory }
     ensures label { read_label (codes "access") ≡ Some result.first }
 {
-    Path {
-        directory,
-        first: ACCESS,
-        second: Label::NONE,
-        third: Label::NONE,
-    }
+    Path::of_label(directory, ACCESS)
 }
 
 // Whether what is held grants the role.
 fn grants(held: Option<Rights>, role: usize) -> bool
     ensures { result ≡ grants held role }
 {
-    match held {
-        Some(rights) => rights.is_granted(role),
-        None => false,
-    }
+    held.is_some_and(|rights| rights.is_granted(role))
 }
 
 // Whether a copy of the rights ring grants the role in the directory.

@@ -1,21 +1,22 @@
--- A test of each store of a list, one after another. Assumes nothing.
-use Rattle.std.proofs.Common.{◌≡◌, ℕ, ◌+◌, ◌<◌, ◌≤◌, Bool, true, false, ◌||◌, List, length, get_or, drop, sym, ap, ◌∙◌}
-use Rattle.std.proofs.lemmas.List.{at_drop_more, at_drop_all}
+-- A test of each store of a list, by the stores' numbers. Assumes nothing.
+use Rattle.std.proofs.Common.{◌≡◌, ℕ, ◌<◌, Bool, cond, not, ◌&&◌, ◌||◌, ltb, leb, List, [], ◌∷◌, length, map, find, get_or, Some, None, sym, refl, ap, ◌∙◌, arith}
+use Rattle.std.proofs.lemmas.Bool.Decides.{nat_tests}
+use Rattle.std.specs.List.{list_any, range_with_len}
+use Rattle.std.proofs.lemmas.List.FromFn.{fill_by_all}
 use Rattle.store.specs.Meaning.{Meaning, no_store}
-use Rattle.ring.specs.Openings.{some_store}
 
-module _ {K : Type 0} (f : Meaning K → Bool) (ms : List (Meaning K)) (i : ℕ) (inv : some_store f (drop i ms) ≡ some_store f ms) where
-  step : i < length ms → some_store f (drop i ms) ≡ (f (get_or ms i no_store) || some_store f (drop (i + 1) ms))
-  step lt = at_drop_more (some_store f) ms i no_store lt
+-- a test of what a function makes of each
+any_of_map : {A B : Type 0} (f : B → Bool) (g : A → B) (xs : List A) → list_any f (map g xs) ≡ list_any (λ x. f (g x)) xs
+any_of_map f g [] = refl
+any_of_map f g (x ∷ xs) = ap (λ b. f (g x) || b) (any_of_map f g xs)
 
-  -- the store at hand passes
-  pub some_here : i < length ms → f (get_or ms i no_store) ≡ true → true ≡ some_store f ms
-  some_here lt yes' = sym (ap (λ b. b || some_store f (drop (i + 1) ms)) yes') ∙ sym (step lt) ∙ inv
+-- a test of the stores by their numbers is one of the stores
+pub any_by_number : {K : Type 0} (f : Meaning K → Bool) (ms : List (Meaning K)) (n : ℕ) (r : Bool) → n ≡ length ms → r ≡ list_any (λ i. f (get_or ms i no_store)) (range_with_len 0 n) → r ≡ list_any f ms
+any_by_number f ms n r count any =
+    any
+    ∙ sym (any_of_map f (λ i. get_or ms i no_store) (range_with_len 0 n))
+    ∙ sym (ap (list_any f) (fill_by_all (λ i. get_or ms i no_store) ms n no_store (sym count) (λ _ _. refl)))
 
-  -- it does not, and the search goes on
-  pub some_later : i < length ms → f (get_or ms i no_store) ≡ false → some_store f (drop (i + 1) ms) ≡ some_store f ms
-  some_later lt no' = sym (ap (λ b. b || some_store f (drop (i + 1) ms)) no') ∙ sym (step lt) ∙ inv
-
-  -- none is left
-  pub some_nowhere : length ms ≤ i → false ≡ some_store f ms
-  some_nowhere le = sym (at_drop_all (some_store f) ms i le) ∙ inv
+-- the first number from 2 to 8 that no store has is how many there are
+pub first_missing : (n : ℕ) → 1 < n → find (λ k. not (ltb k n)) (2 ∷ 3 ∷ 4 ∷ 5 ∷ 6 ∷ 7 ∷ 8 ∷ []) ≡ cond (leb 2 n && leb n 8) (Some n) None
+first_missing n more = grind (arith, nat_tests)

@@ -1,3 +1,4 @@
+pub mod Awaited
 pub mod Built
 pub mod Limits
 pub mod Openings

@@ -1,5 +1,6 @@
 -- What is checked before a ring is made. Assumes nothing.
-use Rattle.std.specs.Prelude.{ℕ, Bool, false, not, ◌&&◌, ◌||◌, List, [], ◌∷◌, length, replicate, Some, None, Ok, Err, Option, Result, ◌==◌, nat_le}
+use Rattle.std.specs.Prelude.{ℕ, Bool, not, ◌&&◌, ◌||◌, List, [], ◌∷◌, length, replicate, Some, None, Ok, Err, Option, Result, ◌==◌, nat_le}
+use Rattle.std.specs.List.{list_any}
 use Rattle.grounds.specs.Grounds.{ground_number}
 use Rattle.store.specs.Meaning.{Meaning, count_of}
 use Rattle.store.specs.declared.bank.Bank.{Ghosts as Banks}
@@ -13,8 +14,7 @@ use Rattle.ring.specs.declared.opening.NotOpened.{NotOpened}
 
 -- one of the stores passes
 abbrev pub some_store : {K : Type 0} → (Meaning K → Bool) → List (Meaning K) → Bool
-some_store f [] = false
-some_store f (m ∷ ms) = f m || some_store f ms
+some_store f ms = list_any f ms
 
 -- not 1 to so many
 abbrev pub outside : ℕ → ℕ → Bool

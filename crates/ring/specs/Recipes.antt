@@ -2,10 +2,11 @@
 use Rattle.std.specs.Prelude.{ℕ, cond, ◌||◌, List, [], ◌∷◌, Err, Result, ◌==◌}
 use Rattle.names.specs.declared.label.Label.{Label}
 use Rattle.names.specs.declared.path.Path.{Path}
+use Rattle.names.specs.Paths.{one_label}
 use Rattle.entries.specs.declared.recipe.Recipe.{Recipe}
 use Rattle.entries.specs.Recipes.{join_recipes, blank_recipe, stamp_of, sound_recipe}
 use Rattle.store.specs.Laws.{entry_of}
-use Rattle.reading.specs.Lookup.{Reading, Reading.refused, one_label, lookup_of}
+use Rattle.reading.specs.Lookup.{Reading, Reading.refused, lookup_of}
 use Rattle.reading.specs.Growth.{used_in, growth_entry}
 use Rattle.listing.specs.declared.listed.Listed.{Listed}
 use Rattle.listing.specs.Listing.{list_answer, list_after}

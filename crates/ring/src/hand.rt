@@ -5,7 +5,7 @@ ghost use Rattle.machine.specs.States.{settled};
 ghost use Rattle.machine.specs.Posts.{tag_grounds, handed, hand};
 ghost use Rattle.ring.specs.Built.{state_of};
 
-use crate::letters_out::plain;
+use crate::letters_out::reply;
 use crate::ring::Ring;
 use entries::Dated;
 use grounds::Ground;
@@ -17,60 +17,41 @@ impl<K: Dated, B: Bank<K>, G: Bag<Letter<K>>> Ring<K, B, G> {
     fn deliver(&mut self, letter: Letter<K>) -> Result<(), Ground>
         ensures { (by_number result, state_of B.Bank G.Bag self.new) ≡ settled (tag_grounds (state_of B.Bank G.Bag self.old) letter letter.tag) (state_of B.Bank G.Bag self.old) (tt, handed (kind_of K.Joinable K.Dated.own) (state_of B.Bank G.Bag self.old) letter letter.tag) }
     {
-        let (from, to, stamp, place) = (
-            letter.sender,
-            letter.addressee,
-            letter.stamp,
-            letter.place,
-        );
+        let to = letter.addressee;
         match letter.tag {
             Tag::News => {
-                if self.is_full(to, &letter.path) {
-                    return Err(Ground::StoreFull);
-                }
+                self.check_place(to, &letter.path)?;
                 let _ = self.stores.join(to, letter.path, letter.entry);
                 Ok(())
             }
             Tag::Raise => {
-                if self.bag_is_full() {
-                    return Err(Ground::BagFull);
-                }
+                self.check_room()?;
                 let count = self.stores.count(to);
-                self.heads.lift_floor(to, stamp);
-                let _ = self
-                    .bag
-                    .send(plain(Tag::Counted, to, from, stamp, place, count));
+                self.heads.lift_floor(to, letter.stamp);
+                let _ = self.bag.send(reply(&letter, Tag::Counted, count));
                 Ok(())
             }
             Tag::Fetch => {
-                if place >= self.stores.count(to) {
+                if letter.place >= self.stores.count(to) {
                     return Err(Ground::PlaceNotHeld);
                 }
-                if self.bag_is_full() {
-                    return Err(Ground::BagFull);
-                }
-                let reply = self.laden(Tag::Entry, to, from, stamp, place, place);
-                let _ = self.bag.send(reply);
+                self.check_room()?;
+                let entry = self.laden(reply(&letter, Tag::Entry, 0), letter.place);
+                let _ = self.bag.send(entry);
                 Ok(())
             }
             Tag::Put => {
                 let (path, entry) = (letter.path, letter.entry);
-                if self.is_full(to, &path) {
-                    return Err(Ground::StoreFull);
-                }
-                if self.bag_is_full() {
-                    return Err(Ground::BagFull);
-                }
+                self.check_place(to, &path)?;
+                self.check_room()?;
                 let _ = self.stores.join(to, path, entry);
-                let _ = self.bag.send(plain(Tag::Stored, to, from, stamp, place, 0));
+                let _ = self.bag.send(reply(&letter, Tag::Stored, 0));
                 Ok(())
             }
             Tag::Swept => {
-                if self.bag_is_full() {
-                    return Err(Ground::BagFull);
-                }
-                self.heads.lift_sweep(to, stamp);
-                let _ = self.bag.send(plain(Tag::Noted, to, from, stamp, place, 0));
+                self.check_room()?;
+                self.heads.lift_sweep(to, letter.stamp);
+                let _ = self.bag.send(reply(&letter, Tag::Noted, 0));
                 Ok(())
             }
             Tag::Counted | Tag::Entry | Tag::Stored | Tag::Noted => Err(Ground::NotAwaited),
@@ -81,9 +62,7 @@ impl<K: Dated, B: Bank<K>, G: Bag<Letter<K>>> Ring<K, B, G> {
     pub fn hand(&mut self, letter: usize) -> Result<(), Ground>
         ensures { (by_number result, state_of B.Bank G.Bag self.new) ≡ hand (kind_of K.Joinable K.Dated.own) (state_of B.Bank G.Bag self.old) letter }
     {
-        match self.bag.read(letter) {
-            Some(letter) => self.deliver(letter),
-            None => Err(Ground::NoSuchLetter),
-        }
+        let read = self.bag.read(letter).ok_or(Ground::NoSuchLetter)?;
+        self.deliver(read)
     }
 }

@@ -5,56 +5,50 @@ ghost use Rattle.machine.specs.Posts.{plain, laden};
 ghost use Rattle.ring.specs.Built.{state_of};
 
 use crate::ring::Ring;
+use crate::sweep::Round;
 use entries::Dated;
 use letters::{Bag, Letter, Tag};
-use names::{Path, Stamp};
 use store::Bank;
 
-// A letter that carries neither path nor entry.
-pub(crate) fn plain<K: Dated>(
-    tag: Tag,
-    sender: usize,
-    addressee: usize,
-    stamp: Stamp,
-    place: usize,
-    count: usize,
-) -> Letter<K>
-    ensures { result ≡ plain (kind_of K.Joinable K.Dated.own) tag sender addressee stamp place count }
+// What a sweep asks of the copy in hand, of a place. It carries neither path nor entry.
+pub(crate) fn request<K: Dated>(round: Round, tag: Tag, place: usize) -> Letter<K>
+    ensures { result ≡ plain (kind_of K.Joinable K.Dated.own) tag round.home round.in_hand round.stamp place 0 }
 {
     Letter {
         tag,
-        sender,
-        addressee,
-        stamp,
+        sender: round.home,
+        addressee: round.in_hand,
+        stamp: round.stamp,
         place,
+        ..Letter::blank()
+    }
+}
+
+// The reply to a letter: it goes back to the sender with the letter's stamp and place, and neither path nor entry.
+pub(crate) fn reply<K: Dated>(letter: &Letter<K>, tag: Tag, count: usize) -> Letter<K>
+    ensures { result ≡ plain (kind_of K.Joinable K.Dated.own) tag letter.now.addressee letter.now.sender letter.now.stamp letter.now.place count }
+{
+    Letter {
+        tag,
+        sender: letter.addressee,
+        addressee: letter.sender,
+        stamp: letter.stamp,
+        place: letter.place,
         count,
-        path: Path::NONE,
-        entry: K::blank(),
+        ..Letter::blank()
     }
 }
 
 impl<K: Dated, B: Bank<K>, G: Bag<Letter<K>>> Ring<K, B, G> {
-    // A letter with the path and the entry at a place of the copy that it speaks of.
-    pub(crate) fn laden(
-        &self,
-        tag: Tag,
-        sender: usize,
-        addressee: usize,
-        stamp: Stamp,
-        place: usize,
-        at: usize,
-    ) -> Letter<K>
-        ensures { result ≡ laden (kind_of K.Joinable K.Dated.own) tag sender addressee stamp place (store_of (state_of B.Bank G.Bag self.now) sender) at }
+    // The letter with the path and the entry at a place of its sender.
+    pub(crate) fn laden(&self, letter: Letter<K>, at: usize) -> Letter<K>
+        ensures { result ≡ laden (kind_of K.Joinable K.Dated.own) letter.tag letter.sender letter.addressee letter.stamp letter.place (store_of (state_of B.Bank G.Bag self.now) letter.sender) at }
     {
         Letter {
-            tag,
-            sender,
-            addressee,
-            stamp,
-            place,
             count: 0,
-            path: self.stores.path_at(sender, at),
-            entry: self.stores.entry_at(sender, at),
+            path: self.stores.path_at(letter.sender, at),
+            entry: self.stores.entry_at(letter.sender, at),
+            ..letter
         }
     }
 }

@@ -2,7 +2,9 @@
 // Each call's contract is one equation: its answer and the ring after it are the plain machine's.
 #![tactic(auto)]
 
+mod awaited;
 mod begin;
+mod checks;
 mod collecting;
 mod hand;
 mod letters_out;
@@ -20,6 +22,4 @@ mod views;
 pub use opening::{NotOpened, Opening};
 pub use press::{Pressable, Pressed};
 pub use ring::Ring;
-pub use sweep::{
-    Collected, Collecting, Finished, Refused, Spreading, WhenCollected, WhenConfirmed,
-};
+pub use sweep::{Collected, Collecting, Finished, Refused, Round, Spreading};

@@ -1,4 +1,5 @@
 ghost use Rattle.std.specs.Prelude.{◌≡◌, ◌&&◌, length, if◌then◌else◌, Some, None, nat_le};
+ghost use Rattle.grounds.specs.Grounds.{by_number};
 ghost use Rattle.ring.specs.Built.{state_of};
 ghost use Rattle.ring.specs.Openings.{some_store, outside, bad_places, not_empty, open_check, checked_by, made_of};
 
@@ -15,21 +16,17 @@ use store::Bank;
 fn is_outside(most: usize, number: usize) -> bool
     ensures { result ≡ outside most number }
 {
-    number < 1 || number > most
+    !(1..=most).contains(&number)
 }
 
 // How many stores there are, if 2 to 8.
 fn count_copies<K: Dated, B: Bank<K>>(stores: &B) -> Option<usize>
     ensures { result ≡ (if nat_le 2 (length (B.Bank.meanings stores.now)) && nat_le (length (B.Bank.meanings stores.now)) 8 then Some (length (B.Bank.meanings stores.now)) else None) }
 {
-    if !stores.has(1) || stores.has(8) {
+    if !stores.has(1) {
         return None;
     }
-    let mut copies = 8;
-    'copies: while !stores.has(copies - 1) {
-        copies -= 1;
-    }
-    Some(copies)
+    (2..9).find(|copies| !stores.has(*copies))
 }
 
 // Whether a store has too few or too many places.
@@ -37,12 +34,7 @@ fn some_bad_places<K: Dated, B: Bank<K>>(stores: &B, copies: usize) -> bool
     requires { copies ≡ length (B.Bank.meanings stores.now) }
     ensures { result ≡ some_store bad_places (B.Bank.meanings stores.now) }
 {
-    'copies: for copy in 0..copies {
-        if is_outside(4096, stores.places(copy)) {
-            return true;
-        }
-    }
-    false
+    (0..copies).any(|copy| is_outside(4096, stores.places(copy)))
 }
 
 // Whether a store holds a pair.
@@ -50,12 +42,21 @@ fn some_not_empty<K: Dated, B: Bank<K>>(stores: &B, copies: usize) -> bool
     requires { copies ≡ length (B.Bank.meanings stores.now) }
     ensures { result ≡ some_store not_empty (B.Bank.meanings stores.now) }
 {
-    'copies: for copy in 0..copies {
-        if stores.count(copy) != 0 {
-            return true;
-        }
+    (0..copies).any(|copy| stores.count(copy) != 0)
+}
+
+// How many copies a ring of these stores and this bag has, or the ground against it.
+fn copies_of<K: Dated, B: Bank<K>, G: Bag<Letter<K>>>(stores: &B, bag: &G) -> Result<usize, Ground>
+    ensures { by_number result ≡ (open_check (B.Bank.meanings stores.now) (G.Bag.mail bag.now)).0 }
+{
+    let copies = count_copies(stores).ok_or(Ground::CopyCount)?;
+    if some_bad_places(stores, copies) || is_outside(1024, bag.places()) {
+        return Err(Ground::PlacesOutOfRange);
     }
-    false
+    if some_not_empty(stores, copies) {
+        return Err(Ground::StoreNotEmpty);
+    }
+    Ok(copies)
 }
 
 impl<K: Dated, B: Bank<K>, G: Bag<Letter<K>>> Opening<K, B, G> {
@@ -63,33 +64,20 @@ impl<K: Dated, B: Bank<K>, G: Bag<Letter<K>>> Opening<K, B, G> {
     pub fn check(stores: B, bag: G) -> Result<Opening<K, B, G>, NotOpened<B, G>>
         ensures { checked_by B.Bank G.Bag result ≡ open_check (B.Bank.meanings stores) (G.Bag.mail bag) }
     {
-        let Some(copies) = count_copies(&stores) else {
-            return Err(NotOpened {
-                ground: Ground::CopyCount,
+        // no `?` here: a refusal gives the stores and the bag back
+        match copies_of(&stores, &bag) {
+            Ok(copies) => Ok(Opening {
+                copies,
                 stores,
                 bag,
-            });
-        };
-        if some_bad_places(&stores, copies) || is_outside(1024, bag.places()) {
-            return Err(NotOpened {
-                ground: Ground::PlacesOutOfRange,
+                kind: PhantomData,
+            }),
+            Err(ground) => Err(NotOpened {
+                ground,
                 stores,
                 bag,
-            });
+            }),
         }
-        if some_not_empty(&stores, copies) {
-            return Err(NotOpened {
-                ground: Ground::StoreNotEmpty,
-                stores,
-                bag,
-            });
-        }
-        Ok(Opening {
-            copies,
-            stores,
-            bag,
-            kind: PhantomData,
-        })
     }
 
     // Makes the ring; letters that the bag still had are taken out.

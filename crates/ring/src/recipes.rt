@@ -1,7 +1,7 @@
 ghost use Rattle.std.specs.Prelude.{◌≡◌, ℕ, ◌+◌, ◌≤◌, false, length, take, Ok};
 ghost use Rattle.grounds.specs.Grounds.{by_number};
 ghost use Rattle.store.specs.Laws.{entry_of};
-ghost use Rattle.reading.specs.Lookup.{reading_of, steps_of, one_label};
+ghost use Rattle.reading.specs.Lookup.{reading_of, steps_of};
 ghost use Rattle.reading.specs.Rules.{Exactly};
 ghost use Rattle.reading.specs.Growth.{used_in};
 ghost use Rattle.machine.specs.States.{store_of, no_copy};
@@ -38,25 +38,16 @@ impl<B: Bank<Recipe>, G: Bag<Letter<Recipe>>> Ring<Recipe, B, G> {
     ) -> Result<(), Ground>
         ensures { (by_number result, state_of B.Bank G.Bag self.new) ≡ grow (state_of B.Bank G.Bag self.old) copy stamp new label old }
     {
-        let path = Path {
-            directory: new,
-            first: label,
-            second: Label::NONE,
-            third: Label::NONE,
-        };
+        let path = Path::of_label(new, label);
         let entry = Recipe {
             stamp,
             content: Content::Directory(old),
         };
-        if let Some(ground) = self.update_ground(copy, &path, &entry) {
-            return Err(ground);
-        }
+        self.check_update(copy, &path, &entry)?;
         if new == old || self.uses(copy, new) {
             return Err(Ground::DirectoryInUse);
         }
-        if self.is_full(copy, &path) {
-            return Err(Ground::StoreFull);
-        }
+        self.check_place(copy, &path)?;
         let _ = self.stores.join(copy, path, entry);
         Ok(())
     }
@@ -81,9 +72,7 @@ impl<B: Bank<Recipe>, G: Bag<Letter<Recipe>>> Ring<Recipe, B, G> {
         ensures answer { (by_number result, memory.new) ≡ list_at (state_of B.Bank G.Bag self.now) copy directory memory.old }
         ensures listed { (n : ℕ) → by_number result ≡ Ok n → Lists (entry_of (store_of (state_of B.Bank G.Bag self.now) copy)) directory (take n memory.new) }
     {
-        if copy >= self.copies {
-            return Err(Ground::NoSuchCopy);
-        }
+        self.check_copy(copy)?;
         list(&OneStore::of(&self.stores, copy), directory, memory)
     }
 }

@@ -2,13 +2,13 @@ ghost use Rattle.std.specs.Prelude.{◌≡◌};
 ghost use Rattle.machine.specs.Sweeps.{spread, confirm, stamp_of};
 ghost use Rattle.ring.specs.Built.{state_of, of_collected, of_spreading, of_finished, spread_by, confirmed_by};
 
-use crate::begin::next_copy;
 use crate::ring::Ring;
-use crate::sweep::{Collected, Finished, Refused, Spreading, WhenConfirmed};
+use crate::sweep::{Collected, Finished, Refused, Round, Spreading};
 use entries::Dated;
 use grounds::Ground;
 use letters::{Bag, Letter, Tag};
 use names::Stamp;
+use std::ops::ControlFlow;
 use store::Bank;
 
 impl<K: Dated, B: Bank<K>, G: Bag<Letter<K>>> Ring<K, B, G> {
@@ -16,85 +16,59 @@ impl<K: Dated, B: Bank<K>, G: Bag<Letter<K>>> Ring<K, B, G> {
     pub fn spread(&mut self, sweep: Collected) -> Result<Spreading, Refused<Collected>>
         ensures { spread_by result (state_of B.Bank G.Bag self.new) ≡ spread (state_of B.Bank G.Bag self.old) (of_collected sweep) }
     {
-        if sweep.home >= self.copies {
-            return Err(Refused {
-                ground: Ground::NoSuchCopy,
-                sweep,
-            });
+        if let Err(ground) = self.check_copy(sweep.home) {
+            return Err(Refused { ground, sweep });
         }
         let Collected { stamp, home } = sweep;
         self.heads.lift_sweep(home, stamp);
         Ok(Spreading {
-            stamp,
-            home,
-            in_hand: next_copy(self.copies, home),
+            round: Round::new(self.copies, stamp, home),
             count: self.stores.count(home),
             place: 0,
         })
     }
 
     // Reads the awaited reply: stored of the awaited place, or noted when all places were put.
+    // Continue: more is to be confirmed. Break: the sweep is finished.
     pub fn confirm(
         &mut self,
         sweep: Spreading,
         letter: usize,
-    ) -> Result<WhenConfirmed, Refused<Spreading>>
+    ) -> Result<ControlFlow<Finished, Spreading>, Refused<Spreading>>
         ensures { confirmed_by result (state_of B.Bank G.Bag self.new) ≡ confirm (state_of B.Bank G.Bag self.old) (of_spreading sweep) letter }
     {
-        if sweep.home >= self.copies || sweep.in_hand >= self.copies {
-            return Err(Refused {
-                ground: Ground::NoSuchCopy,
-                sweep,
-            });
-        }
-        let Some(reply) = self.bag.read(letter) else {
-            return Err(Refused {
-                ground: Ground::NoSuchLetter,
-                sweep,
-            });
+        // no `?` here: a refusal gives the sweep back, which no conversion has
+        let reply = match self.awaited(sweep.round, letter) {
+            Ok(reply) => reply,
+            Err(ground) => return Err(Refused { ground, sweep }),
         };
-        if reply.addressee != sweep.home
-            || reply.sender != sweep.in_hand
-            || reply.stamp != sweep.stamp
-        {
-            return Err(Refused {
-                ground: Ground::NotAwaited,
-                sweep,
-            });
-        }
         match (sweep.place == sweep.count, reply.tag, reply.place) {
             (true, Tag::Noted, _) => {
                 let Spreading {
-                    stamp,
-                    home,
-                    in_hand,
+                    round,
                     count,
                     place: _,
                 } = sweep;
-                let next = next_copy(self.copies, in_hand);
-                if next == home {
-                    return Ok(WhenConfirmed::Done(Finished { stamp, home }));
-                }
-                Ok(WhenConfirmed::More(Spreading {
-                    stamp,
-                    home,
-                    in_hand: next,
-                    count,
-                    place: 0,
-                }))
+                Ok(match round.next(self.copies) {
+                    Some(round) => ControlFlow::Continue(Spreading {
+                        round,
+                        count,
+                        place: 0,
+                    }),
+                    None => ControlFlow::Break(Finished {
+                        stamp: round.stamp,
+                        home: round.home,
+                    }),
+                })
             }
             (false, Tag::Stored, at) if at == sweep.place => {
                 let Spreading {
-                    stamp,
-                    home,
-                    in_hand,
+                    round,
                     count,
                     place,
                 } = sweep;
-                Ok(WhenConfirmed::More(Spreading {
-                    stamp,
-                    home,
-                    in_hand,
+                Ok(ControlFlow::Continue(Spreading {
+                    round,
                     count,
                     place: place + 1,
                 }))
@@ -109,22 +83,16 @@ impl<K: Dated, B: Bank<K>, G: Bag<Letter<K>>> Ring<K, B, G> {
 
 impl Collected {
     // Ends the sweep; the ring stays as it is.
-    pub fn abandon(self)
-        ensures { Unit {0} }
-    {
+    pub fn abandon(self) {
         let Collected { stamp: _, home: _ } = self;
     }
 }
 
 impl Spreading {
     // Ends the sweep; the ring stays as it is.
-    pub fn abandon(self)
-        ensures { Unit {0} }
-    {
+    pub fn abandon(self) {
         let Spreading {
-            stamp: _,
-            home: _,
-            in_hand: _,
+            round: _,
             count: _,
             place: _,
         } = self;

@@ -25,10 +25,8 @@ impl<K: Dated, B: Bank<K>, G: Bag<Letter<K>>> Ring<K, B, G> {
     pub fn entry(&self, copy: usize, path: &Path) -> Option<K>
         ensures { result ≡ entry_of (store_of (state_of B.Bank G.Bag self.now) copy) path.now }
     {
-        match self.stores.find(copy, path) {
-            Some(place) => Some(self.stores.entry_at(copy, place)),
-            None => None,
-        }
+        let place = self.stores.find(copy, path)?;
+        Some(self.stores.entry_at(copy, place))
     }
 
     // The head of a copy; one at 0 for a number that no copy has.

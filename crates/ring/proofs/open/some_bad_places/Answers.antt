@@ -1,18 +1,15 @@
-use Rattle.std.proofs.Common.{sym, refl, ap, ◌∙◌, arith}
-use Rattle.ring.specs.Openings.{outside, bad_places}
-use Rattle.ring.proofs.Stores.{some_here, some_later, some_nowhere}
+use Rattle.std.proofs.Common.{get_or, refl, rules, arith}
+use Rattle.std.proofs.lemmas.Iterator.{YieldsList-from_range}
+use Rattle.std.proofs.lemmas.Iterator.Search.{any_from_yields_List}
+use borrow.Author.Tests.{tests}
+use Rattle.store.specs.Meaning.{no_store}
+use Rattle.ring.specs.Openings.{bad_places}
+use Rattle.ring.proofs.Stores.{any_by_number}
 use Rattle.ring.proofs.open.some_bad_places.Goals as goal
 
-pub copies-init : goal.copies-init
-copies-init g c = refl
-
-pub returns-then-is_outside : goal.returns-then-is_outside
-returns-then-is_outside g c =
-    some_here bad_places (g.B.Bank.meanings c.args.stores.now) c.copies.copy c.copies.invariant (omega (arith, c.requires)) (ap (outside 4096) (sym c.places.ensures) ∙ sym c.if-is_outside.ensures)
-
-pub copies-preserved : goal.copies-preserved
-copies-preserved g c =
-    some_later bad_places (g.B.Bank.meanings c.args.stores.now) c.copies.copy c.copies.invariant (omega (arith, c.requires)) (ap (outside 4096) (sym c.places.ensures) ∙ sym c.if-is_outside.ensures)
-
 pub returns : goal.returns
-returns g c = some_nowhere bad_places (g.B.Bank.meanings c.args.stores.now) c.copies.copy c.copies.invariant (omega (arith, c.requires))
+returns g c =
+    let ms = g.B.Bank.meanings c.args.stores.now in
+    let n = c.args.copies in
+    any_by_number bad_places ms n c.any.result c.requires
+    (any_from_yields_List (λ i. bad_places (get_or ms i no_store)) _ _ _ c.any.ensures.ran (YieldsList-from_range 0 n n refl (omega arith)) (λ x b q k. search (rules, tests)))
