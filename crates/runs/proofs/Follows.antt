@@ -1,5 +1,5 @@
 -- A list of calls, one after another, and the machine's run of it. Assumes nothing.
-use Rattle.std.proofs.Common.{◌≡◌, ℕ, ◌+◌, ◌<◌, ◌≤◌, List, [], ◌∷◌, ◌++◌, map, length, get_or, drop, Some, None, Ok, Err, Option, Result, sym, refl, ap, ◌∙◌, subst, append_assoc, MatchOption}
+use Rattle.std.proofs.Common.{◌≡◌, ℕ, ◌+◌, ◌<◌, ◌≤◌, List, [], ◌∷◌, ◌++◌, map, length, get_or, drop, Some, None, Ok, Err, Option, Result, sym, refl, ap, ◌∙◌, append_assoc}
 use Rattle.std.proofs.lemmas.List.{drop_more, drop_all, append-nil}
 use Rattle.entries.specs.declared.recipe.Recipe.{Recipe}
 use Rattle.machine.specs.Kinds.{Kind}
@@ -8,19 +8,13 @@ use Rattle.machine.specs.Sweeps.{Sweep}
 use Rattle.machine.specs.Worlds.{World, Call, Got, posts, mail, hand, lose, begin, press, collect, spread, confirm, close, abandon, doing, step, run, answers}
 use Rattle.ring.specs.Recipes.{recipes}
 use Rattle.service.specs.declared.recipe_call.RecipeCall.{RecipeCall}
-use Rattle.service.specs.declared.call.Got as built
-use Rattle.service.specs.declared.call.Trouble.{Trouble}
-use Rattle.service.specs.Calls.{answer_of, world_of, seen, Performs}
+use Rattle.service.specs.Calls.{world_of, seen}
 use Rattle.service.specs.RecipeCalls.{of_recipe_call}
 use Rattle.runs.specs.Runs.{runs_from}
 
 -- the answers so far, and what is left
 abbrev pub Left : List (Result Got ℕ) → State Recipe × List Sweep → List RecipeCall → List (Result Got ℕ) × (State Recipe × List Sweep)
 Left said x calls = (said ++ (runs_from x calls).0, (runs_from x calls).1)
-
--- a call that was made did its step
-pub performed : (r : Result built.Got Trouble) (a : Result Got ℕ) (x y : State Recipe × List Sweep) (c : RecipeCall) → answer_of r ≡ Some a → Performs recipes (of_recipe_call c) x r y → (a, y) ≡ seen (step recipes (of_recipe_call c) (world_of x))
-performed r a x y c e p = subst (λ o. MatchOption o (y ≡ x) (λ b. (b, y) ≡ seen (step recipes (of_recipe_call c) (world_of x)))) e p
 
 -- one call more
 pub one_more : (said : List (Result Got ℕ)) (x y : State Recipe × List Sweep) (calls : List RecipeCall) (i : ℕ) (d : RecipeCall) (a : Result Got ℕ) → i < length calls → (a, y) ≡ seen (step recipes (of_recipe_call (get_or calls i d)) (world_of x)) → Left (said ++ a ∷ []) y (drop (i + 1) calls) ≡ Left said x (drop i calls)

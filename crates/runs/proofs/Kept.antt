@@ -1,8 +1,8 @@
 -- The promise, from the agreement of copies and the laws of reading. Assumes nothing.
-use Rattle.std.proofs.Common.{◌≡◌, ℕ, ◌<◌, false, not, eqb, List, [], ◌∷◌, map, length, is_ok, Some, None, Ok, Option, sym, refl, ap, ◌∙◌, arith}
+use Rattle.std.proofs.Common.{◌≡◌, ℕ, ◌<◌, false, not, eqb, List, [], ◌∷◌, map, length, Some, None, Ok, Option, sym, refl, ap, ◌∙◌, arith}
 use mathlib.Core.Path.{fun_ext}
 use Rattle.std.proofs.lemmas.List.{get_or-set_same}
-use Rattle.std.proofs.lemmas.Bool.{lt-ltb, cond-false, both_ways, or_parts, and_parts, not-false, eqb-false}
+use Rattle.std.proofs.lemmas.Bool.{lt-ltb, cond-false, or_parts, and_parts, not-false, eqb-false}
 use Rattle.names.specs.declared.label.Label.{Label}
 use Rattle.entries.specs.declared.recipe.Recipe.{Recipe}
 use Rattle.store.specs.Meaning.{Meaning, no_store}
@@ -49,7 +49,7 @@ accepted gs w done g = go (first_ground gs) refl
   where
     go : (o : Option ℕ) → first_ground gs ≡ o → (decided o w done).0 ≡ Ok g → Passed gs × ((decided o w done).1 ≡ done.1)
     go None h e = (none_fits gs h, refl)
-    go (Some n) h e = absurd (both_ways false refl (ap is_ok e))
+    go (Some n) h e = absurd cc
 
 -- one accepted growth
 growth_holds : (laws : Laws recipes) (start : List (Meaning Recipe)) (w : World Recipe) → Invariant recipes start w → (c stamp new : ℕ) (x : Label) (old : ℕ) → (step recipes (of_recipe_call (Grow c stamp new x old)) w).0 ≡ Ok nothing → GrowthHolds w.ring (step recipes (of_recipe_call (Grow c stamp new x old)) w).1.ring c new x old

@@ -1,7 +1,8 @@
 -- What a check that found no ground says of stores and bag, and the laws of recipe entries. Assumes nothing.
-use Rattle.std.proofs.Common.{◌≡◌, ℕ, Bool, true, false, cond, leb, List, [], ◌∷◌, length, replicate, is_ok, Some, None, Ok, Err, Option, sym, refl, ap, ◌∙◌, arith}
+use Rattle.std.proofs.Common.{◌≡◌, ℕ, Bool, true, false, cond, leb, List, [], ◌∷◌, length, replicate, Some, None, Ok, Option, refl, ap, ◌∙◌}
 use Rattle.std.specs.List.{AllByRecursion}
-use Rattle.std.proofs.lemmas.Bool.{both_ways, or_parts, and_parts, not-false, eqb-true, leb-true}
+use Rattle.std.proofs.lemmas.List.{nil_from_length}
+use Rattle.std.proofs.lemmas.Bool.{or_parts, and_parts, not-false, eqb-true, leb-true}
 use Rattle.entries.specs.declared.recipe.Recipe.{Recipe}
 use Rattle.entries.specs.Recipes.{key, later}
 use Rattle.entries.specs.Keys.{recipes_commute, recipes_associate}
@@ -20,25 +21,17 @@ use Rattle.agreement.proofs.Passing.{none_fits}
 use Rattle.ring.specs.declared.opening.Opening.{Opening}
 use Rattle.ring.specs.Openings.{some_store, not_empty, open_grounds, open_answer, made_of}
 
--- an accepted check found no ground, and a refused one its first
+-- an accepted check found no ground
 pub open_ok : (o : Option ℕ) (n m : ℕ) → Ok m ≡ open_answer o n → (o ≡ None) × (m ≡ n)
 open_ok None n m e = (refl, cc)
-open_ok (Some g) n m e = absurd (both_ways false refl (sym (ap is_ok e)))
-
-pub open_err : (o : Option ℕ) (n g : ℕ) → Err g ≡ open_answer o n → o ≡ Some g
-open_err None n g e = absurd (both_ways true (sym (ap is_ok e)) refl)
-open_err (Some h) n g e = let same : g ≡ h = cc in ap Some (sym same)
-
-no_pairs : {A : Type 0} (xs : List A) → length xs ≡ 0 → xs ≡ []
-no_pairs [] e = refl
-no_pairs (x ∷ xs) e = absurd (omega (arith, e))
+open_ok (Some g) n m e = absurd cc
 
 all_empty : (ms : List (Meaning Recipe)) → some_store not_empty ms ≡ false → AllByRecursion (λ m. m.pairs ≡ []) ms
 unfolding count_of
 all_empty [] e = tt
 all_empty (m ∷ ms) e =
     let o = or_parts (not_empty m) (some_store not_empty ms) e in
-    (no_pairs m.pairs (eqb-true _ _ (not-false _ o.0)), all_empty ms o.1)
+    (nil_from_length m.pairs (eqb-true _ _ (not-false _ o.0)), all_empty ms o.1)
 
 -- stores that pass the check are two to eight, and empty
 pub fresh : (stores : List (Meaning Recipe)) (bag : Mail (Letter Recipe)) → first_ground (open_grounds stores bag) ≡ None → Fresh stores

@@ -13,8 +13,8 @@ use Rattle.ring.specs.Recipes.{recipes}
 use Rattle.service.specs.declared.recipe_call.RecipeCall.{RecipeCall}
 use Rattle.service.specs.Calls.{world_of, seen}
 use Rattle.service.specs.RecipeCalls.{of_recipe_call}
-use Rattle.runs.specs.declared.ran.NotRun.{NotRun}
-use Rattle.runs.specs.declared.ran.NotRun.TheVariants.{Refused, NoMemory}
+use Rattle.service.specs.declared.call.Trouble.{Trouble}
+use Rattle.service.specs.declared.call.Trouble.TheVariants.{Refused, NoMemory}
 use Rattle.runs.specs.Promise.{after}
 
 -- the answers of a list of calls on a ring in service, and the ring and its sweeps after it
@@ -33,6 +33,6 @@ pub record IsRun (stores : List (Meaning Recipe)) (bag : Mail (Letter Recipe)) (
   pub sweeps : left.1 ≡ (after stores bag.places calls).sweeps
 
 -- why a run was not made: the ground of the opening, or want of memory
-abbrev pub NotMade : List (Meaning Recipe) → Mail (Letter Recipe) → NotRun → Type 0
+abbrev pub NotMade : List (Meaning Recipe) → Mail (Letter Recipe) → Trouble → Type 0
 NotMade stores bag (Refused g) = first_ground (open_grounds stores bag) ≡ Some (ground_number g)
 NotMade stores bag NoMemory = Unit {0}

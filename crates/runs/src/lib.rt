@@ -3,10 +3,9 @@
 #![tactic(auto)]
 
 mod calling;
-mod follow;
 mod ran;
 mod running;
 
 pub use calling::make_call;
-pub use ran::{NotRun, Ran};
+pub use ran::Ran;
 pub use running::run;

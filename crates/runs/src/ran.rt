@@ -8,10 +8,3 @@ pub struct Ran<B, G> {
     pub service: Service<Recipe, B, G>,
     pub answers: Vec<Result<Got, Ground>>,
 }
-
-// Why a run was not made.
-#[derive(Clone, Copy)]
-pub enum NotRun {
-    Refused(Ground),
-    NoMemory,
-}

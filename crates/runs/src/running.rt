@@ -3,12 +3,12 @@ ghost use Rattle.service.specs.Calls.{by_got, serving};
 ghost use Rattle.runs.specs.Promise.{Promise};
 ghost use Rattle.runs.specs.Runs.{IsRun, NotMade};
 
-use crate::follow::follow;
-use crate::ran::{NotRun, Ran};
+use crate::calling::follow;
+use crate::ran::Ran;
 use entries::Recipe;
 use letters::{Bag, Letter};
-use ring::{NotOpened, Opening};
-use service::{RecipeCall, Service};
+use ring::Opening;
+use service::{RecipeCall, Service, Trouble};
 use std::alloc::Global;
 use store::Bank;
 
@@ -19,25 +19,12 @@ pub fn run<B: Bank<Recipe> + Drop, G: Bag<Letter<Recipe>> + Drop>(
     stores: B,
     bag: G,
     calls: &[RecipeCall],
-) -> Result<Ran<B, G>, NotRun>
+) -> Result<Ran<B, G>, Trouble>
     ensures machine { MatchResult result (λ ran. IsRun (B.Bank.meanings stores) (G.Bag.mail bag) calls.now (map by_got ran.answers.items) (serving B.Bank G.Bag ran.service)) (NotMade (B.Bank.meanings stores) (G.Bag.mail bag)) }
     ensures promise { OnOk result (Promise (B.Bank.meanings stores) (G.Bag.mail bag).places calls.now) }
 {
-    match Opening::check(stores, bag) {
-        Ok(opening) => {
-            let mut service = Service::start(heap, opening);
-            match follow(heap, &mut service, calls) {
-                Ok(answers) => Ok(Ran { service, answers }),
-                Err(_) => Err(NotRun::NoMemory),
-            }
-        }
-        Err(refused) => {
-            let NotOpened {
-                ground,
-                stores: _,
-                bag: _,
-            } = refused;
-            Err(NotRun::Refused(ground))
-        }
-    }
+    let opening = Opening::check(stores, bag)?;
+    let mut service = Service::start(heap, opening);
+    let answers = follow(heap, &mut service, calls)?;
+    Ok(Ran { service, answers })
 }

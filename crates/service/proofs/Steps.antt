@@ -1,124 +1,58 @@
--- A step of the machine, from what a call on the ring alone, or on a sweep alone, does. Assumes nothing.
-use Rattle.std.proofs.Common.{◌≡◌, ℕ, zero, suc, List, [], ◌∷◌, ◌++◌, get_or, set, Some, None, Ok, Err, Option, Result, sym, refl, ap, ◌∙◌, subst, arith}
-use Rattle.std.proofs.lemmas.List.{set-set}
-use Rattle.machine.specs.States.{State, Grounds, first_ground, decided, settled}
-use Rattle.machine.specs.Sweeps.{Sweep, ended, turned, moved, wrong_state, press_grounds, collect_grounds, spread_grounds, confirm_grounds, close_grounds, abandon_grounds}
-use Rattle.machine.specs.Worlds.{Update, Got, nothing, with_sweep}
-use Rattle.letters.specs.declared.letter.Letter.{Letter}
-use Rattle.ring.specs.declared.sweep.Collecting.{Collecting}
-use Rattle.ring.specs.declared.sweep.Collected.{Collected}
-use Rattle.ring.specs.declared.sweep.Spreading.{Spreading}
-use Rattle.ring.specs.declared.sweep.Finished.{Finished}
-use Rattle.service.specs.declared.held.Held.{Held}
-use Rattle.service.specs.declared.held.Held.TheVariants as held
-use Rattle.service.specs.Calls.{got_nothing, of_held, world_of, seen}
-
--- the sweep of a number, taken out, is put back as it was
-put_back : (ws : List Sweep) (j : ℕ) → set (set ws j ended) j (get_or ws j ended) ≡ ws
-put_back [] j = refl
-put_back (w ∷ ws) zero = refl
-put_back (w ∷ ws) (suc j) = ap (λ vs. w ∷ vs) (put_back ws j)
-
-abbrev pub answer : Option ℕ → Got → Result Got ℕ
-answer None g = Ok g
-answer (Some n) g = Err n
+-- Steps of the machine, from what a call does on the ring alone, or on a sweep alone. Assumes nothing.
+use Rattle.std.proofs.Common.{◌≡◌, ℕ, List, [], ◌∷◌, ◌++◌, get_or, set, Some, None, Ok, Err, Option, Result, ap, ◌∙◌}
+use Rattle.std.proofs.lemmas.List.{set-get_or}
+use Rattle.names.specs.Stamps.{stamp_at}
+use Rattle.letters.specs.Mail.{letter_at}
+use Rattle.machine.specs.Kinds.{Kind}
+use Rattle.machine.specs.States.{State, Grounds, floor_at, first_ground, decided, settled}
+use Rattle.machine.specs.Sweeps.{Sweep, ended, begin, begin_grounds, begun, turned, moved, press_grounds, pressed, collect_grounds, after_collect, spread_grounds, after_spread, confirm_grounds, after_confirm, close_grounds, abandon_grounds, stamp_of}
+use Rattle.machine.specs.Worlds.{World, Got, nothing, stamped, how_far, with_sweep, begin as begins, step}
+use Rattle.service.specs.declared.sweep_calls.SweepCall.{SweepCall}
+use Rattle.service.specs.declared.sweep_calls.SweepCall.TheVariants as on
+use Rattle.service.specs.Calls.{of_sweep_call, world_of, seen}
 
 module _ {K : Type 0} where
-  -- a call on the ring alone
-  pub ring_step : (o : Option ℕ) (s s' : State K) (ws : List Sweep) (us : List (Update K)) (a : Result (Unit {0}) ℕ × State K) → a ≡ decided o s (tt, s') → (got_nothing a.0, (a.1, ws)) ≡ seen (decided o (world_of (s, ws)) (nothing, record { ring = s'; sweeps = ws; updates = us }))
-  ring_step None s s' ws us a e = ap (λ (x : Result (Unit {0}) ℕ × State K). (got_nothing x.0, (x.1, ws))) e
-  ring_step (Some g) s s' ws us a e = ap (λ (x : Result (Unit {0}) ℕ × State K). (got_nothing x.0, (x.1, ws))) e
+  -- a call that is refused on a sweep alone
+  pub refused_step : (gs : Grounds) (n : ℕ) (s t : State K) (x y : Sweep) (after : Sweep × State K) (done : Got × World K) → ◌≡◌ {A = Option ℕ × (Sweep × State K)} (Some n, (y, t)) (moved gs (x, s) after) → ◌≡◌ {A = Result Got ℕ × (State K × List Sweep)} (Err n, (t, y ∷ [])) (seen (settled gs (world_of (s, x ∷ [])) done))
+  refused_step gs n s t x y after done = go (first_ground gs)
+    where
+      go : (o : Option ℕ) → ◌≡◌ {A = Option ℕ × (Sweep × State K)} (Some n, (y, t)) (turned o (x, s) after) → ◌≡◌ {A = Result Got ℕ × (State K × List Sweep)} (Err n, (t, y ∷ [])) (seen (decided o (world_of (s, x ∷ [])) done))
+      go None e = let ground : Some n ≡ None = ap (λ p. p.0) e in cc
+      go (Some g) e =
+          let ground : Some n ≡ Some g = ap (λ p. p.0) e in
+          let sweep : y ≡ x = ap (λ p. p.1.0) e in
+          let ring : t ≡ s = ap (λ p. p.1.1) e in
+          cc
 
   -- a begin that is accepted
-  pub begin_step : (o : Option ℕ) (s s' t : State K) (ws : List Sweep) (w x : Sweep) → ◌≡◌ {A = Result Sweep ℕ × State K} (Ok x, t) (decided o s (w, s')) → ◌≡◌ {A = Result Got ℕ × (State K × List Sweep)} (Ok nothing, (t, ws ++ x ∷ [])) (seen (decided o (world_of (s, ws)) (nothing, record { ring = s'; sweeps = ws ++ w ∷ []; updates = [] })))
-  begin_step None s s' t ws w x e =
-      let both : ◌≡◌ {A = Result Sweep ℕ} (Ok x) (Ok w) = ap (λ p. p.0) e in
-      let a : x ≡ w = cc in
-      let b : t ≡ s' = ap (λ p. p.1) e in
-      cc
-  begin_step (Some g) s s' t ws w x e =
-      let both : ◌≡◌ {A = Result Sweep ℕ} (Ok x) (Err g) = ap (λ p. p.0) e in
-      absurd (let z : ◌≡◌ {A = ℕ} 0 1 = cc in omega arith)
+  pub begin_step : (k : Kind K) (s t : State K) (ws : List Sweep) (c time : ℕ) (x : Sweep) → ◌≡◌ {A = Result Sweep ℕ × State K} (Ok x, t) (begin s c time) → ◌≡◌ {A = Result Got ℕ × (State K × List Sweep)} (Ok nothing, (t, ws ++ x ∷ [])) (seen (step k (begins c time) (world_of (s, ws))))
+  begin_step k s t ws c time x = go (first_ground (begin_grounds s c time)) (begun s c time) (floor_at s c (stamp_at time c))
+    where
+      go : (o : Option ℕ) (w : Sweep) (s' : State K) → ◌≡◌ {A = Result Sweep ℕ × State K} (Ok x, t) (decided o s (w, s')) → ◌≡◌ {A = Result Got ℕ × (State K × List Sweep)} (Ok nothing, (t, ws ++ x ∷ [])) (seen (decided o (world_of (s, ws)) (nothing, record { ring = s'; sweeps = ws ++ w ∷ []; updates = [] })))
+      go None w s' e =
+          let sweep : ◌≡◌ {A = Result Sweep ℕ} (Ok x) (Ok w) = ap (λ p. p.0) e in
+          let ring : t ≡ s' = ap (λ p. p.1) e in
+          cc
+      go (Some g) w s' e = let answer : ◌≡◌ {A = Result Sweep ℕ} (Ok x) (Err g) = ap (λ p. p.0) e in cc
 
-  -- sweep j was x; it was taken out, which left vs, and what came of it was put back, which left us
-  module _ (s : State K) (ws vs us : List Sweep) (j : ℕ) (x : Sweep) (here : x ≡ get_or ws j ended) (out : vs ≡ set ws j ended) (gs : Sweep → Grounds) where
-    kept : us ≡ set vs j x → us ≡ ws
-    kept back = back ∙ ap (λ zs. set zs j x) out ∙ ap (set (set ws j ended) j) here ∙ put_back ws j
-
-    -- in a state that the call is not for
-    pub wrong_step : (done : Sweep → Got × (Sweep × State K)) → us ≡ set vs j x → gs x ≡ wrong_state → ◌≡◌ {A = Result Got ℕ × (State K × List Sweep)} (Err 2, (s, us)) (seen (settled (gs (get_or ws j ended)) (world_of (s, ws)) ((done (get_or ws j ended)).0, with_sweep (world_of (s, ws)) j (done (get_or ws j ended)).1)))
-    wrong_step done back e =
-        ap (λ zs. (Err 2, (s, zs))) (kept back)
-        ∙ ap (λ t. seen (settled t (world_of (s, ws)) ((done (get_or ws j ended)).0, with_sweep (world_of (s, ws)) j (done (get_or ws j ended)).1))) (sym (ap gs (sym here) ∙ e))
-
-    -- a press leaves the sweep as it is
-    pub press_step : (p : Sweep → State K) (a : Result (Unit {0}) ℕ × State K) → us ≡ set vs j x → a ≡ settled (gs x) s (tt {0}, p x) → (got_nothing a.0, (a.1, us)) ≡ seen (settled (gs (get_or ws j ended)) (world_of (s, ws)) (nothing, with_sweep (world_of (s, ws)) j (get_or ws j ended, p (get_or ws j ended))))
-    press_step p a back e =
-        ap (λ zs. (got_nothing a.0, (a.1, zs))) (kept back)
-        ∙ ap (λ (t : Result (Unit {0}) ℕ × State K). (got_nothing t.0, (t.1, ws))) e
-        ∙ subst (λ z. (got_nothing (settled (gs x) s (tt {0}, p x)).0, ((settled (gs x) s (tt {0}, p x)).1, ws)) ≡ seen (settled (gs z) (world_of (s, ws)) (nothing, with_sweep (world_of (s, ws)) j (z, p z)))) here (go (first_ground (gs x)))
+  -- a call on sweep j does to it what it does to that sweep alone
+  module _ (s t : State K) (ws : List Sweep) (j : ℕ) (y : Sweep) (a : Result Got ℕ) where
+    among : (gs : Grounds) (got : Got) (after : Sweep × State K) → (a, (t, y ∷ [])) ≡ seen (settled gs (world_of (s, get_or ws j ended ∷ [])) (got, with_sweep (world_of (s, get_or ws j ended ∷ [])) 0 after)) → (a, (t, set ws j y)) ≡ seen (settled gs (world_of (s, ws)) (got, with_sweep (world_of (s, ws)) j after))
+    among gs got after = go (first_ground gs)
       where
-        same : set ws j x ≡ ws
-        same = sym (set-set ws j ended x) ∙ ap (set (set ws j ended) j) here ∙ put_back ws j
+        go : (o : Option ℕ) → (a, (t, y ∷ [])) ≡ seen (decided o (world_of (s, get_or ws j ended ∷ [])) (got, with_sweep (world_of (s, get_or ws j ended ∷ [])) 0 after)) → (a, (t, set ws j y)) ≡ seen (decided o (world_of (s, ws)) (got, with_sweep (world_of (s, ws)) j after))
+        go None e = ap (λ (p : Result Got ℕ × (State K × List Sweep)). (p.0, (p.1.0, set ws j (get_or p.1.1 0 ended)))) e
+        go (Some g) e = ap (λ (p : Result Got ℕ × (State K × List Sweep)). (p.0, (p.1.0, set ws j (get_or p.1.1 0 ended)))) e ∙ ap (λ zs. (Err g, (s, zs))) (set-get_or ws j ended)
 
-        go : (o : Option ℕ) → (got_nothing (decided o s (tt {0}, p x)).0, ((decided o s (tt {0}, p x)).1, ws)) ≡ seen (decided o (world_of (s, ws)) (nothing, with_sweep (world_of (s, ws)) j (x, p x)))
-        go None = ap (λ zs. (Ok nothing, (p x, zs))) (sym same)
-        go (Some g) = refl
-
-    -- a call that takes the sweep
-    pub sweep_step : (after : Sweep → Sweep × State K) (far : Sweep → Got) (r : Option ℕ × (Sweep × State K)) → us ≡ set vs j r.1.0 → r ≡ moved (gs x) (x, s) (after x) → (answer r.0 (far r.1.0), (r.1.1, us)) ≡ seen (settled (gs (get_or ws j ended)) (world_of (s, ws)) (far (after (get_or ws j ended)).0, with_sweep (world_of (s, ws)) j (after (get_or ws j ended))))
-    sweep_step after far r back e =
-        ap (λ zs. (answer r.0 (far r.1.0), (r.1.1, zs))) (back ∙ ap (λ zs. set zs j r.1.0) out ∙ set-set ws j ended r.1.0)
-        ∙ ap (λ (t : Option ℕ × (Sweep × State K)). (answer t.0 (far t.1.0), (t.1.1, set ws j t.1.0))) e
-        ∙ subst (λ z. (answer (moved (gs x) (x, s) (after x)).0 (far (moved (gs x) (x, s) (after x)).1.0), ((moved (gs x) (x, s) (after x)).1.1, set ws j (moved (gs x) (x, s) (after x)).1.0)) ≡ seen (settled (gs z) (world_of (s, ws)) (far (after z).0, with_sweep (world_of (s, ws)) j (after z)))) here (go (first_ground (gs x)))
-      where
-        same : set ws j x ≡ ws
-        same = sym (set-set ws j ended x) ∙ ap (set (set ws j ended) j) here ∙ put_back ws j
-
-        go : (o : Option ℕ) → (answer (turned o (x, s) (after x)).0 (far (turned o (x, s) (after x)).1.0), ((turned o (x, s) (after x)).1.1, set ws j (turned o (x, s) (after x)).1.0)) ≡ seen (decided o (world_of (s, ws)) (far (after x).0, with_sweep (world_of (s, ws)) j (after x)))
-        go None = refl
-        go (Some g) = ap (λ zs. (Err g, (s, zs))) same
-
--- which states the calls are not for
-module _ {K : Type 0} (s : State K) where
-  pub not_pressed : (h : Held) → ((w : Collecting) → h ≡ held.Collecting w → ⊥) → ((w : Spreading) → h ≡ held.Spreading w → ⊥) → press_grounds s (of_held h) ≡ wrong_state
-  not_pressed (held.Collecting w) a b = absurd (a w refl)
-  not_pressed (held.Collected w) a b = refl
-  not_pressed (held.Spreading w) a b = absurd (b w refl)
-  not_pressed (held.Finished w) a b = refl
-  not_pressed held.Ended a b = refl
-
-  pub not_collecting : (found : Option (Letter K)) (h : Held) → ((w : Collecting) → h ≡ held.Collecting w → ⊥) → collect_grounds s (of_held h) found ≡ wrong_state
-  not_collecting found (held.Collecting w) a = absurd (a w refl)
-  not_collecting found (held.Collected w) a = refl
-  not_collecting found (held.Spreading w) a = refl
-  not_collecting found (held.Finished w) a = refl
-  not_collecting found held.Ended a = refl
-
-  pub not_collected : (h : Held) → ((w : Collected) → h ≡ held.Collected w → ⊥) → spread_grounds s (of_held h) ≡ wrong_state
-  not_collected (held.Collecting w) a = refl
-  not_collected (held.Collected w) a = absurd (a w refl)
-  not_collected (held.Spreading w) a = refl
-  not_collected (held.Finished w) a = refl
-  not_collected held.Ended a = refl
-
-  pub not_spreading : (found : Option (Letter K)) (h : Held) → ((w : Spreading) → h ≡ held.Spreading w → ⊥) → confirm_grounds s (of_held h) found ≡ wrong_state
-  not_spreading found (held.Collecting w) a = refl
-  not_spreading found (held.Collected w) a = refl
-  not_spreading found (held.Spreading w) a = absurd (a w refl)
-  not_spreading found (held.Finished w) a = refl
-  not_spreading found held.Ended a = refl
-
-pub not_finished : (h : Held) → ((w : Finished) → h ≡ held.Finished w → ⊥) → close_grounds (of_held h) ≡ wrong_state
-not_finished (held.Collecting w) a = refl
-not_finished (held.Collected w) a = refl
-not_finished (held.Spreading w) a = refl
-not_finished (held.Finished w) a = absurd (a w refl)
-not_finished held.Ended a = refl
-
-pub not_under_way : (h : Held) → ((w : Collecting) → h ≡ held.Collecting w → ⊥) → ((w : Collected) → h ≡ held.Collected w → ⊥) → ((w : Spreading) → h ≡ held.Spreading w → ⊥) → abandon_grounds (of_held h) ≡ wrong_state
-not_under_way (held.Collecting w) a b c = absurd (a w refl)
-not_under_way (held.Collected w) a b c = absurd (b w refl)
-not_under_way (held.Spreading w) a b c = absurd (c w refl)
-not_under_way (held.Finished w) a b c = refl
-not_under_way held.Ended a b c = refl
+    pub step_among : (k : Kind K) (c : SweepCall) → (a, (t, y ∷ [])) ≡ seen (step k (of_sweep_call c 0) (world_of (s, get_or ws j ended ∷ []))) → (a, (t, set ws j y)) ≡ seen (step k (of_sweep_call c j) (world_of (s, ws)))
+    step_among k on.Press = let x = get_or ws j ended in among (press_grounds s x) nothing (x, pressed k s x)
+    step_among k (on.Collect i) =
+        let x = get_or ws j ended in
+        let found = letter_at s.bag.letters i in
+        among (collect_grounds s x found) (how_far (after_collect k s x found).0) (after_collect k s x found)
+    step_among k on.Spread = let x = get_or ws j ended in among (spread_grounds s x) nothing (after_spread s x)
+    step_among k (on.Confirm i) =
+        let x = get_or ws j ended in
+        among (confirm_grounds s x (letter_at s.bag.letters i)) (how_far (after_confirm s x)) (after_confirm s x, s)
+    step_among k on.Close = let x = get_or ws j ended in among (close_grounds x) (stamped (stamp_of x)) (ended, s)
+    step_among k on.Abandon = among (abandon_grounds (get_or ws j ended)) nothing (ended, s)

@@ -20,6 +20,8 @@ use Rattle.service.specs.declared.held.Held.{Held}
 use Rattle.service.specs.declared.held.Held.TheVariants as held
 use Rattle.service.specs.declared.held.Kept.{Kept}
 use Rattle.service.specs.declared.service.Service.{Service}
+use Rattle.service.specs.declared.sweep_calls.SweepCall.{SweepCall}
+use Rattle.service.specs.declared.sweep_calls.SweepCall.TheVariants as on
 
 -- each built call
 abbrev pub of_call : {K : Type 0} → Call K → machine.Call K
@@ -34,6 +36,15 @@ of_call (Spread sweep) = machine.spread sweep
 of_call (Confirm sweep letter) = machine.confirm sweep letter
 of_call (Close sweep) = machine.close sweep
 of_call (Abandon sweep) = machine.abandon sweep
+
+-- each built call on the sweep of a number
+abbrev pub of_sweep_call : {K : Type 0} → SweepCall → ℕ → machine.Call K
+of_sweep_call on.Press j = machine.press j
+of_sweep_call (on.Collect letter) j = machine.collect j letter
+of_sweep_call on.Spread j = machine.spread j
+of_sweep_call (on.Confirm letter) j = machine.confirm j letter
+of_sweep_call on.Close j = machine.close j
+of_sweep_call on.Abandon j = machine.abandon j
 
 -- what the built call got
 abbrev pub of_got : Got → machine.Got
@@ -90,6 +101,11 @@ world_of x = record { ring = x.0; sweeps = x.1; updates = [] }
 abbrev pub seen : {K A : Type 0} → A × machine.World K → A × (State K × List Sweep)
 seen r = (r.0, (r.1.ring, r.1.sweeps))
 
--- a call does its step on the machine, or, where there was no memory for another sweep, nothing
+-- the call begins a sweep
+abbrev pub is_begin : {K : Type 0} → machine.Call K → Bool
+is_begin (machine.begin copy time) = true
+is_begin _ = false
+
+-- a call does its step on the machine, or, if it begins a sweep for which there was no memory, nothing
 abbrev pub Performs : {K : Type 0} → Kind K → machine.Call K → State K × List Sweep → Result Got Trouble → State K × List Sweep → Type 0
-Performs k x before r after = MatchOption (answer_of r) (after ≡ before) (λ a. (a, after) ≡ seen (machine.step k x (world_of before)))
+Performs k x before r after = MatchOption (answer_of r) ((is_begin x ≡ true) × (after ≡ before)) (λ a. (a, after) ≡ seen (machine.step k x (world_of before)))

@@ -14,9 +14,7 @@ pub enum Held {
 
 impl Held {
     // Ends the sweep: it is abandoned, or closed if it was finished.
-    pub fn end(self)
-        ensures { Unit {0} }
-    {
+    pub fn end(self) {
         match self {
             Held::Collecting(sweep) => sweep.abandon(),
             Held::Collected(sweep) => sweep.abandon(),
@@ -44,10 +42,7 @@ impl Kept {
     pub fn is_going(&self) -> bool
         ensures { result ≡ is_going (of_kept self.now) }
     {
-        match &self.0 {
-            Held::Ended => false,
-            _ => true,
-        }
+        !matches!(&self.0, Held::Ended)
     }
 
     // Gives the sweep out again.
@@ -61,7 +56,6 @@ impl Kept {
 
 impl Drop for Kept {
     fn drop(self) {
-        let Kept(sweep) = self;
-        sweep.end();
+        self.give().end();
     }
 }

@@ -3,14 +3,11 @@
 
 mod call;
 mod held;
-mod on_ring;
-mod on_sweeps;
 mod perform;
 mod recipe_call;
 mod recipes;
 mod service;
-mod slots;
-mod start;
+mod sweep_calls;
 mod views;
 
 pub use call::{Call, Got, Trouble};

@@ -5,14 +5,12 @@ ghost use Rattle.reading.specs.Lookup.{reading_of, steps_of};
 ghost use Rattle.reading.specs.Rules.{Exactly};
 ghost use Rattle.listing.specs.Listing.{Lists};
 ghost use Rattle.machine.specs.States.{store_of, no_copy};
-ghost use Rattle.machine.specs.Worlds.{step};
 ghost use Rattle.ring.specs.Recipes.{recipes, lookup_at, list_at};
-ghost use Rattle.service.specs.Calls.{by_got, serving, world_of, seen, Performs};
+ghost use Rattle.service.specs.Calls.{serving, Performs};
 ghost use Rattle.service.specs.RecipeCalls.{of_recipe_call};
 
 use crate::call::{Got, Trouble};
-use crate::on_sweeps::nothing_got;
-use crate::perform::settled;
+use crate::perform::nothing_got;
 use crate::recipe_call::RecipeCall;
 use crate::service::Service;
 use entries::Recipe;
@@ -25,28 +23,15 @@ use store::Bank;
 
 // Rings of recipe entries in service.
 impl<B: Bank<Recipe>, G: Bag<Letter<Recipe>>> Service<Recipe, B, G> {
-    fn grow(
-        &mut self,
-        copy: usize,
-        stamp: Stamp,
-        new: u32,
-        label: Label,
-        old: u32,
-    ) -> Result<Got, Ground>
-        ensures { (by_got result, serving B.Bank G.Bag self.new) ≡ seen (step recipes (of_recipe_call (RecipeCall.Grow copy stamp new label old)) (world_of (serving B.Bank G.Bag self.old))) }
-    {
-        nothing_got(self.ring.grow(copy, stamp, new, label, old))
-    }
-
-    // Does one call: exactly its step on the plain machine, or nothing where there was no memory for another sweep.
+    // Does one call: exactly its step on the plain machine, or nothing where it begins a sweep for which there was no memory.
     pub fn perform_recipe(&mut self, call: RecipeCall) -> Result<Got, Trouble>
         ensures { Performs recipes (of_recipe_call call) (serving B.Bank G.Bag self.old) result (serving B.Bank G.Bag self.new) }
     {
         match call {
             RecipeCall::Ring(call) => self.perform(call),
-            RecipeCall::Grow(copy, stamp, new, label, old) => settled(self.grow(
-                copy, stamp, new, label, old,
-            )),
+            RecipeCall::Grow(copy, stamp, new, label, old) => nothing_got(
+                self.ring.grow(copy, stamp, new, label, old),
+            ),
         }
     }
 

@@ -4,6 +4,7 @@ ghost use Rattle.letters.specs.Mail.{letter_at};
 ghost use Rattle.machine.specs.Sweeps.{ended};
 ghost use Rattle.service.specs.Calls.{serving, is_going};
 
+use crate::held::Kept;
 use crate::service::Service;
 use entries::Dated;
 use heads::Head;
@@ -44,11 +45,6 @@ impl<K: Dated, B: Bank<K>, G: Bag<Letter<K>>> Service<K, B, G> {
     pub fn is_going(&self, sweep: usize) -> bool
         ensures { result ≡ is_going (slice_index_or (serving B.Bank G.Bag self.now).1 sweep ended) }
     {
-        let sweeps = &self.sweeps;
-        if sweep < sweeps.len() {
-            sweeps[sweep].is_going()
-        } else {
-            false
-        }
+        self.sweeps.get(sweep).is_some_and(Kept::is_going)
     }
 }

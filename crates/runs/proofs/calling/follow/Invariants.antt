@@ -1,7 +1,7 @@
 use Rattle.std.proofs.Common.{◌≡◌, ◌++◌, map, drop, vec_items}
 use Rattle.service.specs.Calls.{by_got, serving}
 use Rattle.runs.specs.Runs.{runs_from}
-use Rattle.runs.proofs.follow.follow.Given as goal
+use Rattle.runs.proofs.calling.follow.Given as goal
 
 -- the answers so far, and what the calls that are left will do, are what all calls do
 abbrev pub invariant-calls : goal.invariant-calls

@@ -7,7 +7,7 @@ use Rattle.service.specs.declared.recipe_call.RecipeCall.{RecipeCall}
 use Rattle.service.specs.declared.recipe_call.RecipeCall.TheVariants.{Ring}
 use Rattle.service.specs.Calls.{by_got, serving}
 use Rattle.runs.proofs.Follows.{Left, one_more, none_left}
-use Rattle.runs.proofs.follow.follow.Goals as goal
+use Rattle.runs.proofs.calling.follow.Goals as goal
 
 pub calls-init : goal.calls-init
 calls-init g c = ap (λ xs. Left (map by_got xs) (serving g.B.Bank g.G.Bag c.args.service.now) c.args.calls.now) c.new-answers.ensures.items
