@@ -1,7 +1,7 @@
 pub mod Fronts
 pub mod Befores
+pub mod Parts
 pub mod Digits
-pub mod Slashes
 pub mod Letters
 pub mod Orders
 pub mod Joins

@@ -1,7 +1,7 @@
 -- The values of fields are read exactly from the text in which they stand in order. Assumes nothing.
 use Rattle.std.proofs.Common.{◌≡◌, ℕ, suc, Bool, true, false, cond, eqb, List, [], ◌∷◌, ◌++◌, length, take, drop, Some, None, codes, Option, sym, refl, ap, ◌∙◌, subst, append_assoc, arith}
 use Rattle.std.proofs.lemmas.List.{take_at, drop_at, take-append-drop}
-use Rattle.std.proofs.lemmas.Bool.{eqb-false, ne_eqb}
+use Rattle.std.proofs.lemmas.Bool.{eqb-false, ne_eqb, both_ways}
 use Rattle.std.specs.Option.{option_map}
 use Rattle.lines.specs.Fields.{◌then◌, before_byte, begins, front_of, value_and_rest, after_front, when_empty, field_values}
 use Rattle.lines.specs.Laws.{NoSpace, InOrder, FieldsInOrder}
@@ -62,9 +62,14 @@ field_in_order key keys values value rest text (Some vs) is no' more h =
     let e : value ∷ vs ≡ values = cc in
     subst (λ xs. InOrder (key ∷ keys) xs text) e (no', (rest, is ∙ regrouped key value rest, more vs refl))
 
+-- a text that is not empty has no values of no fields
+no_values : (t : Bool) (values : List (List ℕ)) → t ≡ false → cond t (Some []) None ≡ Some values → ⊥
+no_values true values e h = both_ways true e refl
+no_values false values e h = let z : ◌≡◌ {A = ℕ} 0 1 = cc in omega arith
+
 in_order_read : (keys values : List (List ℕ)) (text : List ℕ) → field_values keys text ≡ Some values → InOrder keys values text
 in_order_read [] values [] h = let e : [] ≡ values = cc in subst (λ vs. InOrder [] vs []) e refl
-in_order_read [] values (b ∷ bs) h = let z : ◌≡◌ {A = ℕ} 0 1 = cc in absurd (omega arith)
+in_order_read [] values (b ∷ bs) h = absurd (no_values _ values (ne_eqb (length (b ∷ bs)) 0 (λ e. omega (arith, e))) h)
 in_order_read (k ∷ ks) values text h = go (begins (front_of k) text) refl h (λ vs. in_order_read ks vs (value_and_rest (drop (length (front_of k)) text)).1)
   where
     go : (t : Bool) → begins (front_of k) text ≡ t → (cond t (Some (value_and_rest (drop (length (front_of k)) text))) None then (λ f. option_map (λ vs. f.0 ∷ vs) (field_values ks f.1))) ≡ Some values → ((vs : List (List ℕ)) → field_values ks (value_and_rest (drop (length (front_of k)) text)).1 ≡ Some vs → InOrder ks vs (value_and_rest (drop (length (front_of k)) text)).1) → InOrder (k ∷ ks) values text

@@ -6,7 +6,8 @@ use Rattle.names.specs.declared.label.Label.{Label}
 use Rattle.names.specs.declared.path.Path.{Path}
 use Rattle.std.specs.Option.{option_map}
 use Rattle.lines.specs.Fields.{◌then◌, begins, when_empty, field_values}
-use Rattle.lines.specs.Names.{labels_in, label_in, path_in, name_labels}
+use Rattle.lines.specs.Names.{labels_in, path_in, name_labels}
+use Rattle.names.specs.Labels.{label_or_none}
 use Rattle.lines.specs.Numbers.{read_number}
 use Rattle.lines.specs.Says.{byte, content_in}
 use Rattle.lines.specs.declared.request.Request.{Request}
@@ -64,7 +65,7 @@ post_from copy time dir path says =
 abbrev pub grow_from : List ℕ → List ℕ → List ℕ → List ℕ → List ℕ → Option Asked
 grow_from copy time new label old =
     read_number copy then (λ c. read_number time then (λ t. read_number new then (λ n. read_number old then (λ o.
-    Some (grow c (stamp_at t c) n (label_in label) o)))))
+    Some (grow c (stamp_at t c) n (label_or_none label) o)))))
 
 -- a lookup, from the values of its fields
 abbrev pub lookup_from : List ℕ → List ℕ → List ℕ → Option Asked

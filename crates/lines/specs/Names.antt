@@ -3,19 +3,14 @@ use Rattle.std.specs.Prelude.{ℕ, cond, List, [], ◌∷◌, length, take, Some
 use Rattle.names.specs.Labels.{label, read_label}
 use Rattle.names.specs.declared.label.Label.{Label}
 use Rattle.names.specs.declared.path.Path.{Path}
+use Rattle.std.specs.List.{slice_split}
 use Rattle.std.specs.Option.{option_map, unwrap_or}
 use Rattle.lines.specs.Fields.{◌then◌}
 use Rattle.lines.specs.declared.name.Name.{Name}
 
--- a byte more at the front of the first part
-abbrev pub lengthened : ℕ → List (List ℕ) → List (List ℕ)
-lengthened b [] = (b ∷ []) ∷ []
-lengthened b (part ∷ parts) = (b ∷ part) ∷ parts
-
 -- the parts of a text between its slashes: one more than there are slashes
 abbrev pub parts_of : List ℕ → List (List ℕ)
-parts_of [] = [] ∷ []
-parts_of (b ∷ bs) = cond (b == 47) ([] ∷ parts_of bs) (lengthened b (parts_of bs))
+parts_of bs = slice_split (λ b. b == 47) bs
 
 -- the label of each part, where each is the text of a label
 abbrev pub all_labels : List (List ℕ) → Option (List Label)
@@ -33,10 +28,6 @@ joined_labels limit bs = all_labels (parts_of bs) then at_most limit
 -- the same, with no labels for a text of bad form
 abbrev pub labels_in : ℕ → List ℕ → List Label
 labels_in limit bs = unwrap_or (joined_labels limit bs) []
-
--- the label that a text reads to; 0, which is no label, for a text of bad form
-abbrev pub label_in : List ℕ → Label
-label_in bs = unwrap_or (read_label bs) (label 0)
 
 -- the path of the labels in a directory; with no label where the text is of bad form
 abbrev pub path_in : ℕ → List ℕ → Path

@@ -1,25 +1,22 @@
-ghost use Rattle.std.specs.Prelude.{◌≡◌, ◌≤◌, length, drop};
+ghost use Rattle.std.specs.Prelude.{◌≡◌};
 ghost use Rattle.std.specs.Option.{option_map};
 ghost use Rattle.names.specs.Stamps.{stamp_at};
-ghost use Rattle.lines.specs.Fields.{when_empty};
-ghost use Rattle.lines.specs.Asked.{of_request, post_from, asked_post, grow_from, asked_grow, lookup_from, asked_lookup, mail_from, asked_mail, begin_from, asked_begin, letter_number};
+ghost use Rattle.lines.specs.Asked.{of_request, asked_post, asked_grow, asked_lookup, asked_mail, asked_begin, letter_number, post_from, grow_from, lookup_from, mail_from, begin_from};
 
-use crate::name::labels::{label_or_none, read_name, read_path};
+use crate::name::labels::{read_name, read_path};
 use crate::number::read_number;
-use crate::reader::{field, is_last, next_field, part, rest_of, when_empty};
+use crate::reader::{field, last_field};
 use crate::request::Request;
 use crate::says::read_content;
 use entries::Recipe;
-use names::Stamp;
+use names::{Label, Stamp};
 
-// How many bytes stand before the fields of a line: `op=` and the letter of its form.
-const OPENING: usize = 4;
-
-// The stamp of a time at a copy, as a number also for a copy that no ring has.
+// The stamp of a time at a copy, as a number also for a copy that no ring has. It is not `names::stamp_at`, which takes a
+// byte and promises that the server reads back.
 fn stamp_of(time: u32, copy: u32) -> Stamp
     ensures { result ≡ stamp_at time copy }
 {
-    time as u64 * 256 + copy as u64
+    u64::from(time) * 256 + u64::from(copy)
 }
 
 // A post, from the values of its fields.
@@ -38,26 +35,16 @@ fn post_from(copy: &[u8], time: &[u8], dir: &[u8], path: &[u8], says: &[u8]) -> 
     Some(Request::Post(copy as usize, path, entry))
 }
 
-// The line of a post.
-pub(crate) fn read_post(line: &[u8]) -> Option<Request>
-    requires { 4 ≤ length line.now }
-    ensures { option_map of_request result ≡ asked_post (drop 4 line.now) }
+// The fields of a post.
+pub(crate) fn read_post(fields: &[u8]) -> Option<Request>
+    ensures { option_map of_request result ≡ asked_post fields.now }
 {
-    let copy = field(line, OPENING, b" copy=")?;
-    let time = next_field(line, copy, b" time=")?;
-    let dir = next_field(line, time, b" dir=")?;
-    let path = next_field(line, dir, b" path=")?;
-    let says = next_field(line, path, b" says=")?;
-    if !is_last(line, says) {
-        return None;
-    }
-    post_from(
-        part(line, copy),
-        part(line, time),
-        part(line, dir),
-        part(line, path),
-        part(line, says),
-    )
+    let (copy, fields) = field(fields, b" copy=")?;
+    let (time, fields) = field(fields, b" time=")?;
+    let (dir, fields) = field(fields, b" dir=")?;
+    let (path, fields) = field(fields, b" path=")?;
+    let says = last_field(fields, b" says=")?;
+    post_from(copy, time, dir, path, says)
 }
 
 // A growth, from the values of its fields.
@@ -69,30 +56,20 @@ fn grow_from(copy: &[u8], time: &[u8], new: &[u8], label: &[u8], old: &[u8]) -> 
     let new = read_number(new)?;
     let old = read_number(old)?;
     let stamp = stamp_of(time, copy);
-    let label = label_or_none(label);
+    let label = Label::or_none(label);
     Some(Request::Grow(copy as usize, stamp, new, label, old))
 }
 
-// The line of a growth.
-pub(crate) fn read_grow(line: &[u8]) -> Option<Request>
-    requires { 4 ≤ length line.now }
-    ensures { option_map of_request result ≡ asked_grow (drop 4 line.now) }
+// The fields of a growth.
+pub(crate) fn read_grow(fields: &[u8]) -> Option<Request>
+    ensures { option_map of_request result ≡ asked_grow fields.now }
 {
-    let copy = field(line, OPENING, b" copy=")?;
-    let time = next_field(line, copy, b" time=")?;
-    let new = next_field(line, time, b" new=")?;
-    let label = next_field(line, new, b" label=")?;
-    let old = next_field(line, label, b" old=")?;
-    if !is_last(line, old) {
-        return None;
-    }
-    grow_from(
-        part(line, copy),
-        part(line, time),
-        part(line, new),
-        part(line, label),
-        part(line, old),
-    )
+    let (copy, fields) = field(fields, b" copy=")?;
+    let (time, fields) = field(fields, b" time=")?;
+    let (new, fields) = field(fields, b" new=")?;
+    let (label, fields) = field(fields, b" label=")?;
+    let old = last_field(fields, b" old=")?;
+    grow_from(copy, time, new, label, old)
 }
 
 // A lookup, from the values of its fields.
@@ -105,18 +82,14 @@ fn lookup_from(copy: &[u8], start: &[u8], name: &[u8]) -> Option<Request>
     Some(Request::Lookup(copy as usize, start, name))
 }
 
-// The line of a lookup.
-pub(crate) fn read_lookup(line: &[u8]) -> Option<Request>
-    requires { 4 ≤ length line.now }
-    ensures { option_map of_request result ≡ asked_lookup (drop 4 line.now) }
+// The fields of a lookup.
+pub(crate) fn read_lookup(fields: &[u8]) -> Option<Request>
+    ensures { option_map of_request result ≡ asked_lookup fields.now }
 {
-    let copy = field(line, OPENING, b" copy=")?;
-    let start = next_field(line, copy, b" start=")?;
-    let name = next_field(line, start, b" name=")?;
-    if !is_last(line, name) {
-        return None;
-    }
-    lookup_from(part(line, copy), part(line, start), part(line, name))
+    let (copy, fields) = field(fields, b" copy=")?;
+    let (start, fields) = field(fields, b" start=")?;
+    let name = last_field(fields, b" name=")?;
+    lookup_from(copy, start, name)
 }
 
 // A mail, from the values of its fields.
@@ -129,18 +102,14 @@ fn mail_from(from: &[u8], to: &[u8], place: &[u8]) -> Option<Request>
     Some(Request::Mail(from as usize, to as usize, place as usize))
 }
 
-// The line of a mail.
-pub(crate) fn read_mail(line: &[u8]) -> Option<Request>
-    requires { 4 ≤ length line.now }
-    ensures { option_map of_request result ≡ asked_mail (drop 4 line.now) }
+// The fields of a mail.
+pub(crate) fn read_mail(fields: &[u8]) -> Option<Request>
+    ensures { option_map of_request result ≡ asked_mail fields.now }
 {
-    let from = field(line, OPENING, b" from=")?;
-    let to = next_field(line, from, b" to=")?;
-    let place = next_field(line, to, b" place=")?;
-    if !is_last(line, place) {
-        return None;
-    }
-    mail_from(part(line, from), part(line, to), part(line, place))
+    let (from, fields) = field(fields, b" from=")?;
+    let (to, fields) = field(fields, b" to=")?;
+    let place = last_field(fields, b" place=")?;
+    mail_from(from, to, place)
 }
 
 // The begin of a sweep, from the values of its fields.
@@ -152,36 +121,20 @@ fn begin_from(copy: &[u8], time: &[u8]) -> Option<Request>
     Some(Request::Begin(copy as usize, time))
 }
 
-// The line that begins a sweep.
-pub(crate) fn read_begin(line: &[u8]) -> Option<Request>
-    requires { 4 ≤ length line.now }
-    ensures { option_map of_request result ≡ asked_begin (drop 4 line.now) }
+// The fields of the begin of a sweep.
+pub(crate) fn read_begin(fields: &[u8]) -> Option<Request>
+    ensures { option_map of_request result ≡ asked_begin fields.now }
 {
-    let copy = field(line, OPENING, b" copy=")?;
-    let time = next_field(line, copy, b" time=")?;
-    if !is_last(line, time) {
-        return None;
-    }
-    begin_from(part(line, copy), part(line, time))
+    let (copy, fields) = field(fields, b" copy=")?;
+    let time = last_field(fields, b" time=")?;
+    begin_from(copy, time)
 }
 
-// The number of a letter, in a line that has no other field.
-pub(crate) fn read_letter(line: &[u8]) -> Option<usize>
-    requires { 4 ≤ length line.now }
-    ensures { result ≡ letter_number (drop 4 line.now) }
+// The number of a letter, where that is the only field.
+pub(crate) fn read_letter(fields: &[u8]) -> Option<usize>
+    ensures { result ≡ letter_number fields.now }
 {
-    let letter = field(line, OPENING, b" letter=")?;
-    if !is_last(line, letter) {
-        return None;
-    }
-    let number = read_number(part(line, letter))?;
+    let letter = last_field(fields, b" letter=")?;
+    let number = read_number(letter)?;
     Some(number as usize)
-}
-
-// The line of a request that has no fields.
-pub(crate) fn without_fields(line: &[u8], request: Request) -> Option<Request>
-    requires { 4 ≤ length line.now }
-    ensures { result ≡ when_empty (drop 4 line.now) request }
-{
-    when_empty(rest_of(line, OPENING), request)
 }

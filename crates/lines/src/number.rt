@@ -1,12 +1,14 @@
-ghost use Rattle.std.specs.Prelude.{◌≡◌};
+ghost use Rattle.std.specs.Prelude.{◌≡◌, ◌==◌, ◌&&◌, not, slice_index};
 ghost use Rattle.lines.specs.Numbers.{unpadded, read_number};
 
-// Whether there is a byte, and no zero leads others.
-fn is_unpadded(text: &[u8]) -> bool
-    ensures { result ≡ unpadded text.now }
+use std::str;
+
+// Whether there is a byte, no zero leads others, and no plus sign leads, which the library would take for a number's.
+fn is_plain(text: &[u8]) -> bool
+    ensures { result ≡ (unpadded text.now && not (slice_index text.now 0 == 43)) }
 {
     match text {
-        [] | [b'0', _, ..] => false,
+        [] | [b'0', _, ..] | [b'+', ..] => false,
         _ => true,
     }
 }
@@ -15,18 +17,8 @@ fn is_unpadded(text: &[u8]) -> bool
 pub(crate) fn read_number(text: &[u8]) -> Option<u32>
     ensures { result ≡ read_number text.now }
 {
-    if !is_unpadded(text) {
+    if !is_plain(text) {
         return None;
     }
-    let mut value: u64 = 0;
-    'digits: for byte in text {
-        if !byte.is_ascii_digit() {
-            return None;
-        }
-        value = value * 10 + (*byte - b'0') as u64;
-        if value >= 1 << 32 {
-            return None;
-        }
-    }
-    Some(value as u32)
+    str::from_utf8(text).ok()?.parse().ok()
 }

@@ -3,7 +3,7 @@ use entries::Recipe;
 use names::{Label, Path, Stamp};
 
 // What a line asks for.
-#[derive(Clone, Copy)]
+#[derive(Clone, Copy, Debug, PartialEq, Eq)]
 pub enum Request {
     // copy, path, entry
     Post(usize, Path, Recipe),

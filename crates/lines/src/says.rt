@@ -1,21 +1,18 @@
 ghost use Rattle.std.specs.Prelude.{◌≡◌};
 ghost use Rattle.lines.specs.Says.{link_in, content_by, content_in};
 
-use crate::name::labels::label_or_none;
 use crate::number::read_number;
-use crate::reader::{before, rest_of, when_empty};
+use crate::reader::{first_place, when_empty};
 use entries::Content;
+use names::Label;
 
 // Reads a link: a directory, a colon, and a label, which is all that follows the first colon.
 fn read_link(text: &[u8]) -> Option<Content>
     ensures { result ≡ link_in text.now }
 {
-    let colon = before(text, b':');
-    if colon == text.len() {
-        return None;
-    }
-    let directory = read_number(&text[0..colon])?;
-    let label = label_or_none(rest_of(text, colon + 1));
+    let colon = first_place(text, b':')?;
+    let directory = read_number(&text[..colon])?;
+    let label = Label::or_none(&text[colon + 1..]);
     Some(Content::Link(directory, label))
 }
 
@@ -26,8 +23,8 @@ fn content_by(letter: char, rest: &[u8]) -> Option<Content>
     match letter {
         'a' => when_empty(rest, Content::Absent),
         't' => when_empty(rest, Content::Node),
-        'n' => Some(Content::Number(read_number(rest)?)),
-        'd' => Some(Content::Directory(read_number(rest)?)),
+        'n' => read_number(rest).map(Content::Number),
+        'd' => read_number(rest).map(Content::Directory),
         'l' => read_link(rest),
         _ => None,
     }
@@ -37,8 +34,6 @@ fn content_by(letter: char, rest: &[u8]) -> Option<Content>
 pub(crate) fn read_content(text: &[u8]) -> Option<Content>
     ensures { result ≡ content_in text.now }
 {
-    match text {
-        [letter, rest @ ..] => content_by(*letter as char, rest),
-        [] => None,
-    }
+    let (letter, rest) = text.split_first()?;
+    content_by(char::from(*letter), rest)
 }

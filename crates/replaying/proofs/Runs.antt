@@ -1,5 +1,5 @@
 -- A replay as a run of the calls that its lines make, on a ring that opens. Assumes nothing.
-use Rattle.std.proofs.Common.{◌≡◌, ℕ, suc, List, [], ◌∷◌, map, is_some, None, Ok, Err, Result, refl, ap, ◌∙◌, subst, MatchResult}
+use Rattle.std.proofs.Common.{◌≡◌, ℕ, suc, List, [], ◌∷◌, map, is_some, None, Ok, Err, Result, refl, ap, ◌∙◌, MatchResult}
 use Rattle.std.proofs.lemmas.Bool.{both_ways}
 use Rattle.entries.specs.declared.recipe.Recipe.{Recipe}
 use Rattle.store.specs.Meaning.{Meaning, empty_store, count_of}
@@ -10,8 +10,8 @@ use Rattle.machine.specs.Sweeps.{Sweep}
 use Rattle.machine.specs.Worlds.{opened}
 use Rattle.ring.specs.Openings.{open_grounds}
 use Rattle.runs.specs.Runs.{runs_from, NotMade}
-use Rattle.runs.specs.declared.ran.NotRun.{NotRun}
-use Rattle.runs.specs.declared.ran.NotRun.TheVariants.{Refused, NoMemory}
+use Rattle.service.specs.declared.call.Trouble.{Trouble}
+use Rattle.service.specs.declared.call.Trouble.TheVariants.{Refused, NoMemory}
 use Rattle.runs.proofs.Follows.{runs_run}
 use Rattle.runs.proofs.Kept.{promise}
 use Rattle.runs.proofs.Opens.{fresh, recipe_laws}
@@ -60,13 +60,9 @@ covered input =
 
 module _ {S : Type 0} (text : S → List ℕ) where
   -- a replay over the stores and the bag of the program is its report, or memory ran out
-  pub on_its_ring : (ms : List (Meaning Recipe)) (bag : Mail (Letter Recipe)) → ms ≡ stores → bag ≡ no_letters → (input : List ℕ) (r : Result S NotRun) → MatchResult r (λ s. OpensTo ms bag input (text s)) (NotMade ms bag) → MatchResult r (λ s. text s ≡ (replayed 1 at_first (lines_of input)).0) (λ e. e ≡ NoMemory)
+  pub on_its_ring : (ms : List (Meaning Recipe)) (bag : Mail (Letter Recipe)) → ms ≡ stores → bag ≡ no_letters → (input : List ℕ) (r : Result S Trouble) → MatchResult r (λ s. OpensTo ms bag input (text s)) (NotMade ms bag) → MatchResult r (λ s. text s ≡ (replayed 1 at_first (lines_of input)).0) (λ e. e ≡ NoMemory)
   on_its_ring ms bag a b input (Ok s) h = h.1 ∙ ap (λ (m : List (Meaning Recipe)). (replayed 1 ((opened m bag.places).ring, []) (lines_of input)).0) a ∙ ap (λ (g : Mail (Letter Recipe)). (replayed 1 ((opened stores g.places).ring, []) (lines_of input)).0) b
   on_its_ring ms bag a b input (Err NoMemory) h = refl
   on_its_ring ms bag a b input (Err (Refused g)) h =
       let none : first_ground (open_grounds ms bag) ≡ None = ap (λ (m : List (Meaning Recipe)). first_ground (open_grounds m bag)) a ∙ ap (λ (l : Mail (Letter Recipe)). first_ground (open_grounds stores l)) b ∙ opens in
       absurd (both_ways (is_some (first_ground (open_grounds ms bag))) (ap is_some none) (ap is_some h))
-
-  -- the same text by another name
-  pub text_is : (r : Result S NotRun) (bs cs : List ℕ) → bs ≡ cs → MatchResult r (λ s. text s ≡ bs) (λ e. e ≡ NoMemory) → MatchResult r (λ s. text s ≡ cs) (λ e. e ≡ NoMemory)
-  text_is r bs cs e h = subst (λ xs. MatchResult r (λ s. text s ≡ xs) (λ e. e ≡ NoMemory)) e h

@@ -9,7 +9,7 @@ use Rattle.service.specs.declared.recipe_call.RecipeCall.{RecipeCall}
 use Rattle.service.specs.RecipeCalls.{of_recipe_call}
 use Rattle.runs.specs.Promise.{after, Promise}
 use Rattle.lines.specs.Asked.{asked_by}
-use Rattle.report.specs.declared.finding.Finding.{Finding}
+use Rattle.report.specs.Reports.{Found}
 use Rattle.replaying.specs.Replays.{of_answer, Move, makes, finds, move_of, replied, replayed, lines_of, stores, at_first}
 
 -- the call of a move, before the calls of the lines after it
@@ -23,12 +23,12 @@ calls_of x [] = []
 calls_of x (line ∷ lines) = with_call (move_of x (asked_by line)) (calls_of (replied x (asked_by line)).1 lines)
 
 -- what a move came to, before what came after it, if it was a call
-abbrev pub with_finding : Move → Finding → List Finding → List Finding
+abbrev pub with_finding : Move → Found → List Found → List Found
 with_finding (makes c) f fs = f ∷ fs
 with_finding (finds g) f fs = fs
 
 -- what the lines that make a call come to
-abbrev pub findings_of : State Recipe × List Sweep → List (List ℕ) → List Finding
+abbrev pub findings_of : State Recipe × List Sweep → List (List ℕ) → List Found
 findings_of x [] = []
 findings_of x (line ∷ lines) =
     with_finding (move_of x (asked_by line)) (replied x (asked_by line)).0 (findings_of (replied x (asked_by line)).1 lines)

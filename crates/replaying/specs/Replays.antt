@@ -1,5 +1,6 @@
 -- The replay: from the bytes of an input to the bytes of its report. Assumes nothing.
 use Rattle.std.specs.Prelude.{◌≡◌, ℕ, suc, ◌-◌, Bool, cond, List, [], ◌∷◌, ◌++◌, length, Some, None, Ok, Err, Option, Result, ◌==◌, nat_lt, slice_index_or}
+use Rattle.std.specs.List.{onto_first}
 use Rattle.entries.specs.declared.recipe.Recipe.{Recipe}
 use Rattle.store.specs.Meaning.{Meaning, empty_store}
 use Rattle.reading.specs.Lookup.{Reading, Reading.answer as read, Reading.refused as not_read}
@@ -16,31 +17,30 @@ use Rattle.service.specs.declared.recipe_call.RecipeCall.TheVariants.{Ring, Grow
 use Rattle.service.specs.Calls.{world_of, seen, is_going}
 use Rattle.service.specs.RecipeCalls.{of_recipe_call}
 use Rattle.lines.specs.Asked.{Asked, post, grow, lookup, mail, hand, lose, collect, confirm, begin, press, spread, close, abandon, asked_by}
-use Rattle.report.specs.declared.finding.Finding.{Finding}
 use Rattle.report.specs.declared.finding.Gained.{Gained}
 use Rattle.report.specs.declared.finding.Gained.TheVariants as gained
-use Rattle.report.specs.Reports.{report_line}
+use Rattle.report.specs.Reports.{Found, report_line}
 
--- what a refused line comes to: its ground, no steps, and nothing got
-abbrev pub refused : ℕ → Finding
-refused g = record { code = g; steps = 0; gained = gained.Nothing }
+-- what a refused line comes to: its ground, and no steps
+abbrev pub refused : ℕ → Found
+refused g = record { outcome = Err g; steps = 0 }
 
--- what an accepted line that looks up no name comes to
-abbrev pub accepted : Gained → Finding
-accepted x = record { code = 0; steps = 0; gained = x }
+-- what a call got, as the report has it
+abbrev pub gained_of : Got → Gained
+gained_of nothing = gained.Nothing
+gained_of more = gained.More
+gained_of done = gained.Done
+gained_of (stamped s) = gained.Stamp s
 
--- what a call comes to, by its answer
-abbrev pub of_answer : Result Got ℕ → Finding
-of_answer (Ok nothing) = accepted gained.Nothing
-of_answer (Ok more) = accepted gained.More
-of_answer (Ok done) = accepted gained.Done
-of_answer (Ok (stamped s)) = accepted (gained.Stamp s)
+-- what a call comes to, by its answer, without steps
+abbrev pub of_answer : Result Got ℕ → Found
+of_answer (Ok got) = record { outcome = Ok (gained_of got); steps = 0 }
 of_answer (Err g) = refused g
 
 -- what a lookup comes to: its content or ground, and its steps
-abbrev pub of_reading : Reading → Finding
-of_reading (read k n) = record { code = 0; steps = n; gained = gained.Content k }
-of_reading (not_read g n) = record { code = g; steps = n; gained = gained.Nothing }
+abbrev pub of_reading : Reading → Found
+of_reading (read k n) = record { outcome = Ok (gained.Content k); steps = n }
+of_reading (not_read g n) = record { outcome = Err g; steps = n }
 
 -- the number of the sweep that was begun last
 abbrev pub latest : List Sweep → ℕ
@@ -53,7 +53,7 @@ is_held sweeps = is_going (slice_index_or sweeps (latest sweeps) ended)
 -- what a line leads to: a call, or what is found without one
 pub data Move : Type 0 where
   makes : RecipeCall → Move
-  finds : Finding → Move
+  finds : Found → Move
 
 -- the move for what a line asks; a lookup makes no call, nor does a begin while a sweep is held, which is refused with 2
 abbrev pub move_for : State Recipe × List Sweep → Asked → Move
@@ -77,23 +77,18 @@ move_of x None = finds (refused 1)
 move_of x (Some a) = move_for x a
 
 -- what a move comes to, and the ring and the sweeps after it: a call does its step on the plain machine
-abbrev pub moved : State Recipe × List Sweep → Move → Finding × (State Recipe × List Sweep)
+abbrev pub moved : State Recipe × List Sweep → Move → Found × (State Recipe × List Sweep)
 moved x (makes c) = let r = seen (step recipes (of_recipe_call c) (world_of x)) in (of_answer r.0, r.1)
 moved x (finds f) = (f, x)
 
 -- what a line comes to, and the ring and the sweeps after it
-abbrev pub replied : State Recipe × List Sweep → Option Asked → Finding × (State Recipe × List Sweep)
+abbrev pub replied : State Recipe × List Sweep → Option Asked → Found × (State Recipe × List Sweep)
 replied x a = moved x (move_of x a)
-
--- a byte more at the front of the first line
-abbrev pub before_first : ℕ → List (List ℕ) → List (List ℕ)
-before_first b [] = (b ∷ []) ∷ []
-before_first b (line ∷ lines) = (b ∷ line) ∷ lines
 
 -- the lines of an input: each ends with byte 10, the last perhaps not
 abbrev pub lines_of : List ℕ → List (List ℕ)
 lines_of [] = []
-lines_of (b ∷ bs) = cond (b == 10) ([] ∷ lines_of bs) (before_first b (lines_of bs))
+lines_of (b ∷ bs) = cond (b == 10) ([] ∷ lines_of bs) (onto_first b (lines_of bs))
 
 -- the report of the lines from a number on, and the ring and the sweeps after them
 abbrev pub replayed : ℕ → State Recipe × List Sweep → List (List ℕ) → List ℕ × (State Recipe × List Sweep)

@@ -1,6 +1,7 @@
 ghost use Rattle.std.specs.Prelude.{◌≡◌, IfOk, Some};
 ghost use Rattle.service.specs.Calls.{serving};
 ghost use Rattle.lines.specs.Asked.{of_request, asked_by};
+ghost use Rattle.report.specs.Reports.{found_of};
 ghost use Rattle.replaying.specs.Replays.{latest, makes, moved, replied};
 
 use crate::findings::{of_answer, of_reading, refused};
@@ -26,7 +27,7 @@ fn called<B: Bank<Recipe>, G: Bag<Letter<Recipe>>>(
     service: &mut Service<Recipe, B, G>,
     call: RecipeCall,
 ) -> Result<Finding, AllocError>
-    ensures { IfOk result (λ x. (x, serving B.Bank G.Bag service.new) ≡ moved (serving B.Bank G.Bag service.old) (makes call)) }
+    ensures { IfOk result (λ x. (found_of x, serving B.Bank G.Bag service.new) ≡ moved (serving B.Bank G.Bag service.old) (makes call)) }
 {
     Ok(of_answer(make_call(service, call)?))
 }
@@ -37,12 +38,12 @@ fn begun<B: Bank<Recipe>, G: Bag<Letter<Recipe>>>(
     copy: usize,
     time: u32,
 ) -> Result<Finding, AllocError>
-    ensures { IfOk result (λ x. (x, serving B.Bank G.Bag service.new) ≡ replied (serving B.Bank G.Bag service.old) (Some (of_request (Request.Begin copy time)))) }
+    ensures { IfOk result (λ x. (found_of x, serving B.Bank G.Bag service.new) ≡ replied (serving B.Bank G.Bag service.old) (Some (of_request (Request.Begin copy time)))) }
 {
     if service.is_going(latest(service)) {
         return Ok(refused(Ground::NoSuchSweep));
     }
-    called(service, RecipeCall::Ring(Call::Begin(copy, time)))
+    called(service, Call::Begin(copy, time).into())
 }
 
 // Does what is asked for, and tells what it comes to.
@@ -50,14 +51,11 @@ fn answered<B: Bank<Recipe>, G: Bag<Letter<Recipe>>>(
     service: &mut Service<Recipe, B, G>,
     request: Request,
 ) -> Result<Finding, AllocError>
-    ensures { IfOk result (λ x. (x, serving B.Bank G.Bag service.new) ≡ replied (serving B.Bank G.Bag service.old) (Some (of_request request))) }
+    ensures { IfOk result (λ x. (found_of x, serving B.Bank G.Bag service.new) ≡ replied (serving B.Bank G.Bag service.old) (Some (of_request request))) }
 {
     let sweep = latest(service);
     match request {
-        Request::Post(copy, path, entry) => called(
-            service,
-            RecipeCall::Ring(Call::Post(copy, path, entry)),
-        ),
+        Request::Post(copy, path, entry) => called(service, Call::Post(copy, path, entry).into()),
         Request::Grow(copy, stamp, new, label, old) => called(
             service,
             RecipeCall::Grow(copy, stamp, new, label, old),
@@ -67,19 +65,16 @@ fn answered<B: Bank<Recipe>, G: Bag<Letter<Recipe>>>(
             start,
             name.labels(),
         ))),
-        Request::Mail(from, to, place) => called(
-            service,
-            RecipeCall::Ring(Call::Mail(from, to, place)),
-        ),
-        Request::Hand(letter) => called(service, RecipeCall::Ring(Call::Hand(letter))),
-        Request::Lose(letter) => called(service, RecipeCall::Ring(Call::Lose(letter))),
-        Request::Collect(letter) => called(service, RecipeCall::Ring(Call::Collect(sweep, letter))),
-        Request::Confirm(letter) => called(service, RecipeCall::Ring(Call::Confirm(sweep, letter))),
+        Request::Mail(from, to, place) => called(service, Call::Mail(from, to, place).into()),
+        Request::Hand(letter) => called(service, Call::Hand(letter).into()),
+        Request::Lose(letter) => called(service, Call::Lose(letter).into()),
+        Request::Collect(letter) => called(service, Call::Collect(sweep, letter).into()),
+        Request::Confirm(letter) => called(service, Call::Confirm(sweep, letter).into()),
         Request::Begin(copy, time) => begun(service, copy, time),
-        Request::Press => called(service, RecipeCall::Ring(Call::Press(sweep))),
-        Request::Spread => called(service, RecipeCall::Ring(Call::Spread(sweep))),
-        Request::Close => called(service, RecipeCall::Ring(Call::Close(sweep))),
-        Request::Abandon => called(service, RecipeCall::Ring(Call::Abandon(sweep))),
+        Request::Press => called(service, Call::Press(sweep).into()),
+        Request::Spread => called(service, Call::Spread(sweep).into()),
+        Request::Close => called(service, Call::Close(sweep).into()),
+        Request::Abandon => called(service, Call::Abandon(sweep).into()),
     }
 }
 
@@ -88,7 +83,7 @@ pub(crate) fn line_answered<B: Bank<Recipe>, G: Bag<Letter<Recipe>>>(
     service: &mut Service<Recipe, B, G>,
     line: &[u8],
 ) -> Result<Finding, AllocError>
-    ensures { IfOk result (λ x. (x, serving B.Bank G.Bag service.new) ≡ replied (serving B.Bank G.Bag service.old) (asked_by line.now)) }
+    ensures { IfOk result (λ x. (found_of x, serving B.Bank G.Bag service.new) ≡ replied (serving B.Bank G.Bag service.old) (asked_by line.now)) }
 {
     match read_line(line) {
         Some(request) => answered(service, request),

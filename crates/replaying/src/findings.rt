@@ -1,28 +1,31 @@
-ghost use Rattle.std.specs.Prelude.{◌≡◌, Ok};
+ghost use Rattle.std.specs.Prelude.{◌≡◌};
 ghost use Rattle.grounds.specs.Grounds.{ground_number};
 ghost use Rattle.reading.specs.Lookup.{reading_of};
-ghost use Rattle.service.specs.Calls.{by_got};
-ghost use Rattle.replaying.specs.Replays.{refused, accepted, of_answer, of_reading};
+ghost use Rattle.service.specs.Calls.{of_got, by_got};
+ghost use Rattle.report.specs.Reports.{found_of};
+ghost use Rattle.replaying.specs.Replays.{refused, gained_of, of_answer, of_reading};
 
 use grounds::Ground;
 use reading::{Answer, Refusal};
 use report::{Finding, Gained};
 use service::Got;
 
+// The types on both sides of these conversions are other crates', so that none of them is an impl of `From`; what is refused
+// is said in the machine's words, which a report does not know.
+
 // What a line comes to that is refused on a ground, without steps.
 pub(crate) fn refused(ground: Ground) -> Finding
-    ensures { result ≡ refused (ground_number ground) }
+    ensures { found_of result ≡ refused (ground_number ground) }
 {
     Finding {
-        code: ground.number(),
+        outcome: Err(ground),
         steps: 0,
-        gained: Gained::Nothing,
     }
 }
 
 // What a call got, as the report has it.
 fn gained(got: Got) -> Gained
-    ensures { accepted result ≡ of_answer (by_got (Ok got)) }
+    ensures { result ≡ gained_of (of_got got) }
 {
     match got {
         Got::Nothing => Gained::Nothing,
@@ -34,32 +37,26 @@ fn gained(got: Got) -> Gained
 
 // What a call comes to, by its answer.
 pub(crate) fn of_answer(answer: Result<Got, Ground>) -> Finding
-    ensures { result ≡ of_answer (by_got answer) }
+    ensures { found_of result ≡ of_answer (by_got answer) }
 {
-    match answer {
-        Ok(got) => Finding {
-            code: 0,
-            steps: 0,
-            gained: gained(got),
-        },
-        Err(ground) => refused(ground),
+    Finding {
+        outcome: answer.map(gained),
+        steps: 0,
     }
 }
 
 // What a lookup comes to, by its answer.
 pub(crate) fn of_reading(answer: Result<Answer, Refusal>) -> Finding
-    ensures { result ≡ of_reading (reading_of answer) }
+    ensures { found_of result ≡ of_reading (reading_of answer) }
 {
     match answer {
         Ok(answer) => Finding {
-            code: 0,
+            outcome: Ok(Gained::Content(answer.content)),
             steps: answer.steps,
-            gained: Gained::Content(answer.content),
         },
         Err(refusal) => Finding {
-            code: refusal.ground.number(),
+            outcome: Err(refusal.ground),
             steps: refusal.steps,
-            gained: Gained::Nothing,
         },
     }
 }

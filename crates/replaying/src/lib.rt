@@ -3,6 +3,7 @@
 
 mod answering;
 mod findings;
+mod input_lines;
 mod laws;
 mod opening;
 mod replays;

@@ -1,5 +1,7 @@
 -- How a report is written. Assumes nothing.
-use Rattle.std.specs.Prelude.{ℕ, List, ◌++◌, codes, decimal}
+use Rattle.std.specs.Prelude.{ℕ, List, ◌++◌, Ok, Err, Result, codes, decimal}
+use Rattle.std.specs.Result.{result_unwrap_or}
+use Rattle.grounds.specs.Grounds.{by_number}
 use Rattle.names.specs.Labels.{shown_label}
 use Rattle.entries.specs.declared.recipe.Content.{Content}
 use Rattle.entries.specs.declared.recipe.Content.TheVariants.{Absent, Node, Number, Directory, Link}
@@ -23,10 +25,24 @@ shown_gained gained.Done = codes "done"
 shown_gained (gained.Stamp s) = codes "s" ++ decimal s
 shown_gained (gained.Content k) = shown_says k
 
--- the end of a line: what was got, and byte 10
-abbrev pub got_part : Finding → List ℕ
-got_part x = codes " got=" ++ (shown_gained x.gained ++ codes "\n")
+-- what a line came to, as the machine says it: what it got or the number of the ground of its refusal, and the steps
+pub record Found : Type 0 where
+  pub outcome : Result Gained ℕ
+  pub steps : ℕ
+
+-- a finding, its ground by number
+abbrev pub found_of : Finding → Found
+found_of x = record { outcome = by_number x.outcome; steps = x.steps }
+
+-- the number of the ground; 0 where there is none
+abbrev pub code_of : Result Gained ℕ → ℕ
+code_of (Ok x) = 0
+code_of (Err g) = g
+
+-- the end of a line: what was got, nothing where the line was refused, and byte 10
+abbrev pub got_part : Found → List ℕ
+got_part x = codes " got=" ++ (shown_gained (result_unwrap_or x.outcome gained.Nothing) ++ codes "\n")
 
 -- a line of the report: its number, the ground or 0, the steps, and what was got
-abbrev pub report_line : ℕ → Finding → List ℕ
-report_line n x = codes "no=" ++ (decimal n ++ (codes " code=" ++ (decimal x.code ++ (codes " count=" ++ (decimal x.steps ++ got_part x)))))
+abbrev pub report_line : ℕ → Found → List ℕ
+report_line n x = codes "no=" ++ (decimal n ++ (codes " code=" ++ (decimal (code_of x.outcome) ++ (codes " count=" ++ (decimal x.steps ++ got_part x)))))

@@ -1,8 +1,15 @@
-use entries::Content;
-use names::Stamp;
+ghost use Rattle.std.specs.Prelude.{Some};
+ghost use Rattle.report.specs.Reports.{shown_gained};
 
-// What an accepted line got besides.
-#[derive(Clone, Copy)]
+use crate::says::Says;
+use entries::Content;
+use grounds::Ground;
+use names::Stamp;
+use std::fmt;
+
+// What an accepted line got besides. The first four are those of `service::Got`, written out so that a report stands on no
+// ring.
+#[derive(Clone, Copy, Debug, PartialEq, Eq)]
 pub enum Gained {
     Nothing,
     // a sweep's part goes on
@@ -15,10 +22,27 @@ pub enum Gained {
     Content(Content),
 }
 
-// What a line of a replay came to: its ground or 0, the steps of a lookup or else 0, and what it got.
-#[derive(Clone, Copy)]
+// `-`, `more`, `done`, `s5122`, or a content as a line says it.
+impl fmt::Display for Gained {
+    ghost output = { λ x. Some (shown_gained x) };
+
+    fn fmt<W: fmt::Write>(&self, f: &mut fmt::Formatter<W>) -> fmt::Result {
+        match *self {
+            Gained::Nothing => f.write_str("-"),
+            Gained::More => f.write_str("more"),
+            Gained::Done => f.write_str("done"),
+            Gained::Stamp(stamp) => write!(f, "s{stamp}"),
+            Gained::Content(content) => {
+                let says = Says(content);
+                write!(f, "{says}")
+            }
+        }
+    }
+}
+
+// What a line of a replay came to: what it got or the ground of its refusal, and the steps of a lookup or else 0.
+#[derive(Clone, Copy, Debug, PartialEq, Eq)]
 pub struct Finding {
-    pub code: u8,
+    pub outcome: Result<Gained, Ground>,
     pub steps: u32,
-    pub gained: Gained,
 }

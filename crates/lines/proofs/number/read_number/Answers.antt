@@ -1,20 +1,15 @@
-use Rattle.std.proofs.Common.{◌≡◌, true, get_or, rules}
-use Rattle.std.specs.Char.{is_ascii_digit}
-use Rattle.lines.proofs.Digits.{number_no_digit, number_too_large, number_more, number_all}
+use Rattle.std.proofs.Common.{◌≡◌, true, not, ◌&&◌, eqb, get_or, rules, ◌∙◌}
+use Rattle.lines.specs.Numbers.{unpadded}
+use Rattle.lines.proofs.Digits.{no_text, parsed}
 use Rattle.lines.proofs.number.read_number.Goals as goal
 
-pub returns-then-not-is_ascii_digit : goal.returns-then-not-is_ascii_digit
-returns-then-not-is_ascii_digit c = search (rules, number_no_digit)
-
-pub returns-then-value : goal.returns-then-value
-returns-then-value c = search (rules, number_too_large)
-
-pub digits-preserved : goal.digits-preserved
-digits-preserved c =
-    let bs = c.args.text.now in
-    let i = c.digits.byte-index in
-    let yes' : is_ascii_digit (get_or bs i 0) ≡ true = search rules in
-    number_more bs i c.digits.value c.digits.invariant.0 c.digits.invariant.1 c.digits-test.true yes' c.if-value.false
+pub returns-in_err-ok : goal.returns-in_err-ok
+returns-in_err-ok c = search (rules, no_text)
 
 pub returns : goal.returns
-returns c = search (rules, number_all)
+returns c =
+    let text = c.args.text.now in
+    let plain : (unpadded text && not (eqb (get_or text 0 0) 43)) ≡ true = search rules in
+    let same : c.in_ok-ok.field-0.now ≡ text = search rules in
+    let h = c.parse.ensures.value.0 in
+    c.ok-2.ensures.value ∙ parsed text _ plain (rw same at h)
