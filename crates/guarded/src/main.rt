@@ -3,13 +3,8 @@
 #![tactic(auto)]
 
 mod guarded;
-mod making;
-mod notes;
-
-fn run(rt: &HostRuntime) -> anyhow::Result<()> {
-    guarded::granted(rt)
-}
 
 fn main(rt: HostRuntime) -> anyhow::Result<()> {
-    run(&rt)
+    guarded::granted(&rt)?;
+    Ok(())
 }

@@ -2,18 +2,15 @@
 #![tactic(auto)]
 
 mod bakeries;
-mod making;
 mod names_read;
+mod noted;
 mod notes;
 mod stores;
 
-fn run(rt: &HostRuntime) -> anyhow::Result<()> {
-    stores::through_a_table(rt)?;
-    stores::through_a_log(rt)?;
-    names_read::by_names(rt)?;
-    bakeries::swept(rt)
-}
-
 fn main(rt: HostRuntime) -> anyhow::Result<()> {
-    run(&rt)
+    stores::through_a_table(&rt)?;
+    stores::through_a_log(&rt)?;
+    names_read::by_names(&rt)?;
+    bakeries::swept(&rt)?;
+    Ok(())
 }

@@ -1,11 +1,11 @@
 // The second part: a count read under its name.
-use crate::making::{label, path, said};
-use crate::notes;
-use entries::{Content, Joinable, Recipe};
-use listing::{Listed, list};
+use crate::noted::Noted;
+use entries::{Content, Recipe};
+use listing::Listed;
 use names::{Label, Path};
-use reading::lookup;
-use store::{Readable, Store};
+use scenes::{path, said};
+use std::io;
+use store::Store;
 use table::{Table, TableSlot};
 
 // The directory of the north bakery's recipes, and that of the company.
@@ -13,137 +13,111 @@ const NORTH: u32 = 1;
 
 const COMPANY: u32 = 2;
 
-// Joins what was said, with a note of it.
-fn write<S: Store<Recipe>>(
-    rt: &HostRuntime,
-    store: &mut S,
-    what: &str,
-    path: Path,
-    entry: Recipe,
-) -> anyhow::Result<()> {
-    let answer = store.join(path, entry);
-    notes::done(rt, what, answer)
-}
-
-// Reads turns of rye by a name of the company's, with a note of it.
-fn read_turns<S: Readable<Recipe>>(
-    rt: &HostRuntime,
-    store: &S,
-    what: &str,
-    bakery: &[u8],
-) -> anyhow::Result<()> {
-    let name = [label(bakery), label(b"rye"), label(b"turns")];
-    notes::read(rt, what, lookup(store, COMPANY, &name))
-}
-
-// Lists the north bakery's recipes into memory for so many, with a note of it.
-fn list_north<S: Readable<Recipe>>(
-    rt: &HostRuntime,
-    store: &S,
-    what: &str,
-    memory: &mut [Listed],
-) -> anyhow::Result<()> {
-    let answer = list(store, NORTH, memory);
-    notes::listed(rt, what, answer, memory)
-}
-
 // Writes rye with its turns, the company's name for the bakery, and another name for that.
-fn set_out<S: Store<Recipe>>(rt: &HostRuntime, store: &mut S) -> anyhow::Result<()> {
-    write(
-        rt,
-        store,
+fn set_out<R: Print, S: Store<Recipe>>(scene: &mut Noted<R, S>) -> io::Result<()> {
+    scene.write(
         "rye is opened at time 5",
         path(NORTH, b"rye", b""),
         said(5, 0, Content::Node),
     )?;
-    write(
-        rt,
-        store,
+    scene.write(
         "rye/turns is set to 640 at time 6",
         path(NORTH, b"rye", b"turns"),
         said(6, 0, Content::Number(640)),
     )?;
-    write(
-        rt,
-        store,
+    scene.write(
         "the company calls the bakery north, at time 7",
         path(COMPANY, b"north", b""),
         said(7, 0, Content::Directory(NORTH)),
     )?;
-    write(
-        rt,
-        store,
+    scene.write(
         "and old-mill is another name for north, at time 7",
         path(COMPANY, b"old-mill", b""),
-        said(7, 0, Content::Link(COMPANY, label(b"north"))),
+        said(7, 0, Content::Link(COMPANY, Label::or_none(b"north"))),
     )?;
-    write(
-        rt,
-        store,
+    scene.write(
         "a slip of the pen: here is another name for here, at time 7",
         path(COMPANY, b"here", b""),
-        said(7, 0, Content::Link(COMPANY, label(b"here"))),
+        said(7, 0, Content::Link(COMPANY, Label::or_none(b"here"))),
     )
 }
 
-// Reads along a directory, along a link, and along a link that leads nowhere.
-fn read_all<S: Readable<Recipe>>(rt: &HostRuntime, store: &S) -> anyhow::Result<()> {
-    let turns = [label(b"rye"), label(b"turns")];
-    notes::read(
-        rt,
-        "- rye/turns, at the bakery",
-        lookup(store, NORTH, &turns),
-    )?;
-    read_turns(rt, store, "- north/rye/turns, at the company", b"north")?;
-    read_turns(
-        rt,
-        store,
-        "- old-mill/rye/turns, at the company",
-        b"old-mill",
-    )?;
-    read_turns(rt, store, "- here/rye/turns, at the company", b"here")?;
-    notes::read(rt, "- a name of no labels", lookup(store, NORTH, &[]))
+// Reads turns of rye by a name of the company's.
+fn read_turns<R: Print, S: Store<Recipe>>(
+    scene: &Noted<R, S>,
+    what: &str,
+    bakery: &[u8],
+) -> io::Result<()> {
+    scene.read(
+        what,
+        COMPANY,
+        &[
+            Label::or_none(bakery),
+            Label::or_none(b"rye"),
+            Label::or_none(b"turns"),
+        ],
+    )
 }
 
-pub fn by_names(rt: &HostRuntime) -> anyhow::Result<()> {
+// Reads turns of rye by the name that leads over the company's directory.
+fn read_from_north<R: Print, S: Store<Recipe>>(scene: &Noted<R, S>) -> io::Result<()> {
+    read_turns(scene, "- north/rye/turns, at the company", b"north")
+}
+
+// Reads along a directory, along a link, and along a link that leads nowhere.
+fn read_all<R: Print, S: Store<Recipe>>(scene: &Noted<R, S>) -> io::Result<()> {
+    scene.read(
+        "- rye/turns, at the bakery",
+        NORTH,
+        &[Label::or_none(b"rye"), Label::or_none(b"turns")],
+    )?;
+    read_from_north(scene)?;
+    read_turns(scene, "- old-mill/rye/turns, at the company", b"old-mill")?;
+    read_turns(scene, "- here/rye/turns, at the company", b"here")?;
+    scene.read("- a name of no labels", NORTH, &[])
+}
+
+// Lists the bakery's recipes.
+fn list_north<R: Print, S: Store<Recipe>>(
+    scene: &Noted<R, S>,
+    memory: &mut [Listed],
+) -> io::Result<()> {
+    scene.list("- the bakery's recipes", NORTH, memory)
+}
+
+pub(crate) fn by_names(rt: &impl Print) -> io::Result<()> {
     println!(rt; "A table of 8 slots, read by names.")?;
-    let blank = TableSlot {
-        path: Path::NONE,
-        entry: Recipe::blank(),
+    let mut slots = [TableSlot::blank(); 8];
+    let mut scene = Noted {
+        rt,
+        store: Table::new(&mut slots),
     };
-    let mut slots = [blank; 8];
-    let mut table = Table::new(&mut slots);
-    set_out(rt, &mut table)?;
-    read_all(rt, &table)?;
+    set_out(&mut scene)?;
+    read_all(&scene)?;
     let nothing = Listed {
         path: Path::NONE,
         content: Content::Absent,
     };
     let mut memory = [nothing; 4];
-    list_north(rt, &table, "- the bakery's recipes", &mut memory)?;
-    write(
-        rt,
-        &mut table,
+    list_north(&scene, &mut memory)?;
+    scene.write(
         "rye is opened anew at time 8, and what was said below it before is hidden",
         path(NORTH, b"rye", b""),
         said(8, 0, Content::Node),
     )?;
-    read_turns(rt, &table, "- north/rye/turns, at the company", b"north")?;
-    list_north(rt, &table, "- the bakery's recipes", &mut memory)?;
-    write(
-        rt,
-        &mut table,
+    read_from_north(&scene)?;
+    list_north(&scene, &mut memory)?;
+    scene.write(
         "rye/turns is set to 650 at time 9, and shown again",
         path(NORTH, b"rye", b"turns"),
         said(9, 0, Content::Number(650)),
     )?;
-    read_turns(rt, &table, "- north/rye/turns, at the company", b"north")?;
-    list_north(rt, &table, "- the bakery's recipes", &mut memory)?;
+    read_from_north(&scene)?;
+    list_north(&scene, &mut memory)?;
     let mut short = [nothing; 1];
-    list_north(
-        rt,
-        &table,
+    scene.list(
         "- the bakery's recipes, into memory for one",
+        NORTH,
         &mut short,
     )
 }

@@ -1,139 +1,80 @@
-// How a note is printed.
-use entries::{Joinable, Recipe};
+// How a note of a listing, a call, a letter or a store is printed.
+use entries::Recipe;
 use grounds::Ground;
 use letters::{Letter, Tag};
 use listing::Listed;
-use reading::{Answer, Refusal};
+use scenes::Refused;
 use service::{Got, Trouble};
+use std::io;
 use store::Readable;
 
-// What was done, and how it ended.
-pub fn done(rt: &HostRuntime, what: &str, answer: Result<(), Ground>) -> anyhow::Result<()> {
-    match answer {
-        Ok(()) => println!(rt; "- {what}: accepted")?,
-        Err(ground) => {
-            let number = ground.number();
-            println!(rt; "- {what}: refused with ground {number}, {ground}")?;
-        }
-    }
-    Ok(())
-}
-
-// What was read, and how it ended.
-pub fn read(rt: &HostRuntime, what: &str, answer: Result<Answer, Refusal>) -> anyhow::Result<()> {
-    match answer {
-        Ok(found) => {
-            let content = found.content;
-            let steps = found.steps;
-            println!(rt; "{what}: {content} (steps: {steps})")?;
-        }
-        Err(refused) => {
-            let ground = refused.ground;
-            let number = ground.number();
-            let steps = refused.steps;
-            println!(rt; "{what}: refused with ground {number}, {ground} (steps: {steps})")?;
-        }
-    }
-    Ok(())
-}
-
 // What was listed: as many of the memory as the answer says.
-pub fn listed(
-    rt: &HostRuntime,
+pub(crate) fn listed(
+    rt: &impl Print,
     what: &str,
     answer: Result<usize, Ground>,
     memory: &[Listed],
-) -> anyhow::Result<()> {
+) -> io::Result<()> {
     match answer {
         Ok(count) => {
             println!(rt; "{what}: {count} shown")?;
-            'shown: for shown in memory.iter().take(count) {
-                let path = shown.path;
-                let content = shown.content;
+            'shown: for Listed { path, content } in memory.iter().take(count) {
                 println!(rt; "      {path}  {content}")?;
             }
+            Ok(())
         }
-        Err(ground) => {
-            let number = ground.number();
-            println!(rt; "{what}: refused with ground {number}, {ground}")?;
-        }
+        Err(ground) => println!(rt; "{what}: {}", Refused(ground)),
     }
-    Ok(())
 }
 
 // What a call on a ring did, and how it ended.
-pub fn outcome(rt: &HostRuntime, what: &str, outcome: Result<Got, Trouble>) -> anyhow::Result<()> {
+pub(crate) fn outcome(
+    rt: &impl Print,
+    what: &str,
+    outcome: Result<Got, Trouble>,
+) -> io::Result<()> {
     match outcome {
-        Ok(Got::Nothing) => println!(rt; "- {what}: accepted")?,
-        Ok(Got::More) => println!(rt; "- {what}: accepted, and more is to come")?,
-        Ok(Got::Done) => println!(rt; "- {what}: accepted, and all is done")?,
-        Ok(Got::Stamp(stamp)) => println!(rt; "- {what}: accepted, its stamp is {stamp}")?,
-        Err(Trouble::Refused(ground)) => {
-            let number = ground.number();
-            println!(rt; "- {what}: refused with ground {number}, {ground}")?;
-        }
-        Err(Trouble::NoMemory) => println!(rt; "- {what}: there was no memory for another sweep")?,
-    }
-    Ok(())
-}
-
-// What a tag is called.
-fn word(tag: Tag) -> &'static str {
-    match tag {
-        Tag::News => "news",
-        Tag::Raise => "raise",
-        Tag::Counted => "counted",
-        Tag::Fetch => "fetch",
-        Tag::Entry => "entry",
-        Tag::Put => "put",
-        Tag::Stored => "stored",
-        Tag::Swept => "swept",
-        Tag::Noted => "noted",
+        Ok(Got::Nothing) => println!(rt; "- {what}: accepted"),
+        Ok(Got::More) => println!(rt; "- {what}: accepted, and more is to come"),
+        Ok(Got::Done) => println!(rt; "- {what}: accepted, and all is done"),
+        Ok(Got::Stamp(stamp)) => println!(rt; "- {what}: accepted, its stamp is {stamp}"),
+        Err(Trouble::Refused(ground)) => println!(rt; "- {what}: {}", Refused(ground)),
+        Err(Trouble::NoMemory) => println!(rt; "- {what}: there was no memory for another sweep"),
     }
 }
 
 // What a letter of the bag says.
-pub fn letter(rt: &HostRuntime, letter: Option<Letter<Recipe>>) -> anyhow::Result<()> {
+pub(crate) fn letter(rt: &impl Print, letter: Option<Letter<Recipe>>) -> io::Result<()> {
     let Some(letter) = letter else {
-        println!(rt; "    no such letter")?;
-        return Ok(());
+        return println!(rt; "    no such letter");
     };
-    let word = word(letter.tag);
-    let from = letter.sender;
-    let to = letter.addressee;
-    print!(rt; "    letter from bakery {from} to bakery {to}: {word}")?;
-    match letter.tag {
-        Tag::Counted => {
-            let count = letter.count;
-            println!(rt; " {count}")?;
-        }
-        Tag::Fetch | Tag::Stored => {
-            let place = letter.place;
-            println!(rt; " of place {place}")?;
-        }
-        Tag::News | Tag::Entry | Tag::Put => {
-            let path = letter.path;
-            let content = letter.entry.content;
-            println!(rt; ", {path}  {content}")?;
-        }
-        Tag::Raise | Tag::Swept | Tag::Noted => {
-            let stamp = letter.stamp;
-            println!(rt; ", stamp {stamp}")?;
-        }
+    let Letter {
+        tag,
+        sender,
+        addressee,
+        stamp,
+        place,
+        count,
+        path,
+        entry,
+    } = letter;
+    print!(rt; "    letter from bakery {sender} to bakery {addressee}: {tag}")?;
+    match tag {
+        Tag::Counted => println!(rt; " {count}"),
+        Tag::Fetch | Tag::Stored => println!(rt; " of place {place}"),
+        Tag::News | Tag::Entry | Tag::Put => println!(rt; ", {path}  {}", entry.content),
+        Tag::Raise | Tag::Swept | Tag::Noted => println!(rt; ", stamp {stamp}"),
     }
-    Ok(())
 }
 
 // What a store holds, place by place.
-pub fn held<S: Readable<Recipe>>(rt: &HostRuntime, store: &S) -> anyhow::Result<()> {
+pub(crate) fn held<S: Readable<Recipe>>(rt: &impl Print, store: &S) -> io::Result<()> {
     let count = store.count();
     let places = store.places();
     println!(rt; "    held, {count} of {places} places:")?;
     'places: for place in 0..count {
         let path = store.path_at(place);
-        let entry = store.entry_at(place);
-        let content = entry.content;
-        let stamp = entry.stamp;
+        let Recipe { stamp, content } = store.entry_at(place);
         println!(rt; "      {place}  {path}  {content}  (stamp {stamp})")?;
     }
     Ok(())

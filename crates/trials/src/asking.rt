@@ -1,17 +1,17 @@
 // What a trial asks of a ring in service, what comes of it, and how a table of both is gone through.
-use crate::making::{RECIPES, label};
-use entries::{Content, Joinable, Recipe};
+use crate::making::RECIPES;
+use entries::{Content, Recipe};
 use folding_log::{Log, LogSlot};
 use grounds::Ground;
 use letters::{Bag, Letter, Tag};
-use names::{Label, Path, Stamp};
+use names::{Label, Stamp};
 use reading::{Answer, Refusal};
 use ring::Opening;
 use service::{Call, Got, Service, Trouble};
 use std::alloc::AllocGlobal;
 use std::process::Abort;
 use std::test::*;
-use store::{Bank, NoMore, Store};
+use store::{Bank, NoMore};
 use table::{Table, TableSlot};
 use tray::Tray;
 
@@ -27,7 +27,7 @@ pub enum Ask {
     Turns(usize),
 }
 
-// What comes of it. A ground goes by its number.
+// What comes of it. A ground goes by its number and not by its name: the number is what the rules fix.
 #[derive(Clone, Copy, PartialEq, Debug)]
 pub enum Came {
     Accepted,
@@ -37,7 +37,7 @@ pub enum Came {
     Refused(u8),
     NoMemory,
     // tag, addressee, count
-    Sent(u8, usize, usize),
+    Sent(Tag, usize, usize),
     NoLetter,
     // number, steps
     Number(u32, u32),
@@ -66,54 +66,74 @@ pub(crate) fn refused(call: Call<Recipe>, ground: u8) -> Row {
 
 // A letter that has to have a tag, an addressee and a count.
 pub(crate) fn letter(number: usize, tag: Tag, addressee: usize, count: usize) -> Row {
-    (Ask::Letter(number), Came::Sent(tag as u8, addressee, count))
+    (Ask::Letter(number), Came::Sent(tag, addressee, count))
 }
 
 // A lookup of rye at a copy, and what is due of it.
 pub(crate) fn rye_at(copy: usize, due: Came) -> Row {
-    (Ask::Name(copy, label(b"rye")), due)
+    (Ask::Name(copy, Label::or_none(b"rye")), due)
 }
 
-// What an answered call came to.
-pub(crate) fn of_answer(answer: Result<Got, Ground>) -> Came {
-    match answer {
-        Ok(got) => match got {
+// What an accepted call came to.
+impl From<Got> for Came {
+    fn from(got: Got) -> Came {
+        match got {
             Got::Nothing => Came::Accepted,
             Got::More => Came::More,
             Got::Done => Came::Done,
             Got::Stamp(stamp) => Came::Stamped(stamp),
-        },
-        Err(ground) => Came::Refused(ground.number()),
+        }
+    }
+}
+
+// What a refused call came to.
+impl From<Ground> for Came {
+    fn from(ground: Ground) -> Came {
+        Came::Refused(ground.number())
+    }
+}
+
+// What an answered call came to.
+impl From<Result<Got, Ground>> for Came {
+    fn from(answer: Result<Got, Ground>) -> Came {
+        answer.map_or_else(Came::from, Came::from)
     }
 }
 
 // What came of a call.
-fn of_call(outcome: Result<Got, Trouble>) -> Came {
-    match outcome {
-        Ok(got) => of_answer(Ok(got)),
-        Err(trouble) => match trouble {
-            Trouble::Refused(ground) => of_answer(Err(ground)),
-            Trouble::NoMemory => Came::NoMemory,
-        },
+impl From<Result<Got, Trouble>> for Came {
+    fn from(outcome: Result<Got, Trouble>) -> Came {
+        match outcome {
+            Ok(got) => got.into(),
+            Err(Trouble::Refused(ground)) => ground.into(),
+            Err(Trouble::NoMemory) => Came::NoMemory,
+        }
     }
 }
 
 // What was seen of a letter.
-fn of_letter(letter: Option<Letter<Recipe>>) -> Came {
-    match letter {
-        Some(letter) => Came::Sent(letter.tag as u8, letter.addressee, letter.count),
-        None => Came::NoLetter,
+impl From<Option<Letter<Recipe>>> for Came {
+    fn from(letter: Option<Letter<Recipe>>) -> Came {
+        match letter {
+            Some(letter) => Came::Sent(letter.tag, letter.addressee, letter.count),
+            None => Came::NoLetter,
+        }
     }
 }
 
 // What a lookup answered.
-pub(crate) fn of_lookup(answer: Result<Answer, Refusal>) -> Came {
-    match answer {
-        Ok(found) => match found.content {
-            Content::Number(number) => Came::Number(number, found.steps),
-            _ => Came::OtherContent,
-        },
-        Err(refusal) => Came::Unread(refusal.ground.number(), refusal.steps),
+impl From<Result<Answer, Refusal>> for Came {
+    fn from(answer: Result<Answer, Refusal>) -> Came {
+        match answer {
+            Ok(
+                Answer {
+                    content: Content::Number(number),
+                    steps,
+                },
+            ) => Came::Number(number, steps),
+            Ok(_) => Came::OtherContent,
+            Err(Refusal { ground, steps }) => Came::Unread(ground.number(), steps),
+        }
     }
 }
 
@@ -123,14 +143,16 @@ fn comes<B: Bank<Recipe>, G: Bag<Letter<Recipe>>>(
     asked: Ask,
 ) -> Came {
     match asked {
-        Ask::Call(call) => of_call(service.perform(call)),
-        Ask::Letter(number) => of_letter(service.letter(number)),
-        Ask::Name(copy, name) => of_lookup(service.lookup(copy, RECIPES, &[name])),
-        Ask::Turns(copy) => of_lookup(service.lookup(
-            copy,
-            RECIPES,
-            &[label(b"rye"), label(b"turns")],
-        )),
+        Ask::Call(call) => service.perform(call).into(),
+        Ask::Letter(number) => service.letter(number).into(),
+        Ask::Name(copy, name) => service.lookup(copy, RECIPES, &[name]).into(),
+        Ask::Turns(copy) => service
+            .lookup(
+                copy,
+                RECIPES,
+                &[Label::or_none(b"rye"), Label::or_none(b"turns")],
+            )
+            .into(),
     }
 }
 
@@ -144,11 +166,8 @@ fn go_through<B: Bank<Recipe> + Drop, G: Bag<Letter<Recipe>> + Drop>(
     match Opening::check(stores, bag) {
         Ok(opening) => {
             let mut service = Service::start(rt.alloc(), opening);
-            let mut number = 0usize;
-            'rows: for row in rows {
-                let (asked, due) = *row;
-                assert_eq!(rt; comes(&mut service, asked), due, "row {number}");
-                number = number.saturating_add(1);
+            'rows: for (number, (asked, due)) in rows.iter().enumerate() {
+                assert_eq!(rt; comes(&mut service, *asked), *due, "row {number}");
             }
             Ok(())
         }
@@ -159,47 +178,19 @@ fn go_through<B: Bank<Recipe> + Drop, G: Bag<Letter<Recipe>> + Drop>(
     }
 }
 
-// The same over three stores, whatever their builds.
-fn over_three<
-    A: Store<Recipe> + Drop,
-    B: Store<Recipe> + Drop,
-    C: Store<Recipe> + Drop,
-    G: Bag<Letter<Recipe>> + Drop,
->(
-    rt: &(impl Abort + AllocGlobal),
-    first: A,
-    second: B,
-    third: C,
-    bag: G,
-    rows: &[Row],
-) -> Result<(), Fail> {
-    go_through(rt, (first, (second, (third, NoMore))), bag, rows)
-}
-
 // Goes through a table on a ring just opened of two tables and a log, with a place in the bag for each of the letters.
 pub(crate) fn on_a_ring(
     rt: &(impl Abort + AllocGlobal),
     letters: &mut [Letter<Recipe>],
     rows: &[Row],
 ) -> Result<(), Fail> {
-    let blank = TableSlot {
-        path: Path::NONE,
-        entry: Recipe::blank(),
-    };
-    let blank_in_log = LogSlot {
-        path: Path::NONE,
-        entry: Recipe::blank(),
-        place: 0,
-    };
-    let mut first = [blank; 16];
-    let mut second = [blank; 16];
-    let mut third = [blank_in_log; 32];
-    over_three(
-        rt,
+    // here, since what is lent may not outlive what holds it
+    let mut first = [TableSlot::blank(); 16];
+    let mut second = [TableSlot::blank(); 16];
+    let mut third = [LogSlot::blank(); 32];
+    let stores = (
         Table::new(&mut first),
-        Table::new(&mut second),
-        Log::new(&mut third),
-        Tray::new(letters),
-        rows,
-    )
+        (Table::new(&mut second), (Log::new(&mut third), NoMore)),
+    );
+    go_through(rt, stores, Tray::new(letters), rows)
 }

@@ -1,5 +1,5 @@
 // Labels at their limits.
-use crate::making::label;
+use names::Label;
 
 // 0 marks no label.
 #[test]
@@ -9,8 +9,7 @@ fn labels_have_eight_bytes_at_most(rt: HostRuntime) {
         (b"baguette", 0x6261_6775_6574_7465),
         (b"sourdough", 0),
     ];
-    'texts: for case in &texts {
-        let (text, due) = *case;
-        assert_eq!(rt; label(text).number, due);
+    'texts: for (text, due) in texts {
+        assert_eq!(rt; Label::or_none(text).number, due);
     }
 }

@@ -1,8 +1,9 @@
 // Rings of two tables and a log in service.
 use crate::asking::{Ask, Came, Row, accepted, call, letter, on_a_ring, refused, rye_at};
-use crate::making::{blank_letter, label, number_at, path_in, rye, turns};
+use crate::making::{number_at, path_in, rye, turns};
 use entries::{Content, Recipe};
-use letters::Tag;
+use letters::{Letter, Tag};
+use names::Label;
 use service::Call;
 use std::alloc::AllocGlobal;
 use std::process::Abort;
@@ -10,7 +11,7 @@ use std::test::*;
 
 // Goes through a table with room for all its letters.
 fn with_room(rt: &(impl Abort + AllocGlobal), rows: &[Row]) -> Result<(), Fail> {
-    let mut letters = [blank_letter(); 32];
+    let mut letters = [Letter::blank(); 32];
     on_a_ring(rt, &mut letters, rows)
 }
 
@@ -90,7 +91,7 @@ fn empty_copies_are_swept_without_fetch_or_put(rt: HostRuntime) -> Result<(), Fa
 // The bag has two places: news and the raise.
 #[test]
 fn a_full_bag_refuses_a_reply_and_not_news(rt: HostRuntime) -> Result<(), Fail> {
-    let mut letters = [blank_letter(); 2];
+    let mut letters = [Letter::blank(); 2];
     on_a_ring(
         &rt,
         &mut letters,
@@ -223,7 +224,7 @@ fn a_rewritten_parent_hides_what_is_older(rt: HostRuntime) -> Result<(), Fail> {
 fn link(from: u32, to: u32) -> Row {
     let entry = Recipe {
         stamp: 1282,
-        content: Content::Link(to, label(b"rye")),
+        content: Content::Link(to, Label::or_none(b"rye")),
     };
     accepted(Call::Post(2, path_in(from, b"rye"), entry))
 }

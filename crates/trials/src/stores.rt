@@ -1,6 +1,6 @@
-// The two builds of a store, by themselves.
+// The two builds of a store, by themselves. Each trial is a table over memory of its own.
 use crate::making::{number_at, rye, turns};
-use entries::{Joinable, Recipe};
+use entries::Recipe;
 use folding_log::{Log, LogSlot};
 use names::{Path, Stamp};
 use std::process::Abort;
@@ -8,7 +8,7 @@ use store::{Readable, Store};
 use table::{Table, TableSlot};
 
 // A join under a path of an entry with a stamp, and what is due: the stamp that the path holds after it, or the
-// number of the ground.
+// number of the ground, which is what the rules fix.
 #[derive(Clone, Copy)]
 struct Join {
     path: Path,
@@ -36,19 +36,18 @@ fn refused(path: Path, stamp: Stamp, ground: u8) -> Join {
 
 // The stamp of the entry under a path, or 0 where the path is not held.
 fn stamp_under<S: Store<Recipe>>(store: &S, path: &Path) -> Stamp {
-    match store.find(path) {
-        Some(place) => store.entry_at(place).stamp,
-        None => 0,
-    }
+    store
+        .find(path)
+        .map_or(0, |place| store.entry_at(place).stamp)
 }
 
 // Joins one after another, each compared with what is due.
 fn join_each<S: Store<Recipe>>(rt: &impl Abort, store: &mut S, joins: &[Join]) {
     'joins: for join in joins {
-        let came = match store.join(join.path, number_at(join.stamp, 640)) {
-            Ok(()) => Ok(stamp_under(store, &join.path)),
-            Err(ground) => Err(ground.number()),
-        };
+        let came = store
+            .join(join.path, number_at(join.stamp, 640))
+            .map(|()| stamp_under(store, &join.path))
+            .map_err(|ground| ground.number());
         assert_eq!(rt; came, join.due);
     }
 }
@@ -56,10 +55,7 @@ fn join_each<S: Store<Recipe>>(rt: &impl Abort, store: &mut S, joins: &[Join]) {
 // One place, for rye; an older entry that comes last changes nothing.
 #[test]
 fn table_of_one_slot_refuses_a_second_path(rt: HostRuntime) {
-    let mut slots = [TableSlot {
-        path: Path::NONE,
-        entry: Recipe::blank(),
-    }; 1];
+    let mut slots = [TableSlot::blank(); 1];
     join_each(
         &rt,
         &mut Table::new(&mut slots),
@@ -75,11 +71,7 @@ fn table_of_one_slot_refuses_a_second_path(rt: HostRuntime) {
 // A fold that left only the latest entry would answer 1536 at last.
 #[test]
 fn log_of_two_slots_keeps_the_join_of_all(rt: HostRuntime) {
-    let mut slots = [LogSlot {
-        path: Path::NONE,
-        entry: Recipe::blank(),
-        place: 0,
-    }; 2];
+    let mut slots = [LogSlot::blank(); 2];
     join_each(
         &rt,
         &mut Log::new(&mut slots),
@@ -96,11 +88,7 @@ fn log_of_two_slots_keeps_the_join_of_all(rt: HostRuntime) {
 // When the slots are used up, the latest entry of neither path is its greatest.
 #[test]
 fn log_of_four_slots_keeps_the_join_for_each_path(rt: HostRuntime) {
-    let mut slots = [LogSlot {
-        path: Path::NONE,
-        entry: Recipe::blank(),
-        place: 0,
-    }; 4];
+    let mut slots = [LogSlot::blank(); 4];
     join_each(
         &rt,
         &mut Log::new(&mut slots),
