@@ -35,7 +35,15 @@ pub trait Pressable {
         &self,
         ring: &Ring<K, B, G>,
     ) -> Result<Letter<K>, Ground>
-        ensures { sent_by result (state_of B.Bank G.Bag ring.now) ≡ press (kind_of K.Joinable K.Dated.own) (state_of B.Bank G.Bag ring.now) (sweep self.now) };
+    where
+        Self: Sized,
+        ensures { sent_by result (state_of B.Bank G.Bag ring.now) ≡ press (kind_of K.Joinable K.Dated.own) (state_of B.Bank G.Bag ring.now) (sweep self.now) }
+    {
+        match self.numbers() {
+            Pressed::Asking(round, count, place) => ring.asked(round, count, place),
+            Pressed::Telling(round, count, place) => ring.told(round, count, place),
+        }
+    }
 }
 
 impl Pressable for Collecting {
@@ -44,19 +52,6 @@ impl Pressable for Collecting {
     fn numbers(&self) -> Pressed {
         Pressed::Asking(self.round, self.count, self.place)
     }
-
-    // Raise while the count is unknown, else fetch of the place.
-    fn wanted<K: Dated, B: Bank<K>, G: Bag<Letter<K>>>(
-        &self,
-        ring: &Ring<K, B, G>,
-    ) -> Result<Letter<K>, Ground> {
-        ring.check_round(self.round)?;
-        ring.check_room()?;
-        match self.count {
-            None => Ok(request(self.round, Tag::Raise, 0)),
-            Some(_) => Ok(request(self.round, Tag::Fetch, self.place)),
-        }
-    }
 }
 
 impl Pressable for Spreading {
@@ -64,22 +59,6 @@ impl Pressable for Spreading {
 
     fn numbers(&self) -> Pressed {
         Pressed::Telling(self.round, self.count, self.place)
-    }
-
-    // Put of the place with what lies there at home, or swept when all places were put.
-    fn wanted<K: Dated, B: Bank<K>, G: Bag<Letter<K>>>(
-        &self,
-        ring: &Ring<K, B, G>,
-    ) -> Result<Letter<K>, Ground> {
-        ring.check_round(self.round)?;
-        if self.place != self.count && self.place >= ring.stores.count(self.round.home) {
-            return Err(Ground::PlaceNotHeld);
-        }
-        ring.check_room()?;
-        if self.place == self.count {
-            return Ok(request(self.round, Tag::Swept, 0));
-        }
-        Ok(ring.laden(request(self.round, Tag::Put, self.place), self.place))
     }
 }
 
@@ -91,5 +70,32 @@ impl<K: Dated, B: Bank<K>, G: Bag<Letter<K>>> Ring<K, B, G> {
         let letter = sweep.wanted(self)?;
         let _ = self.bag.send(letter);
         Ok(())
+    }
+
+    // What a sweep wants that asks: raise while the count is unknown, else fetch of the place.
+    fn asked(&self, round: Round, count: Option<usize>, place: usize) -> Result<Letter<K>, Ground>
+        ensures { sent_by result (state_of B.Bank G.Bag self.now) ≡ press (kind_of K.Joinable K.Dated.own) (state_of B.Bank G.Bag self.now) (of_pressed (Pressed.Asking round count place)) }
+    {
+        self.check_round(round)?;
+        self.check_room()?;
+        match count {
+            None => Ok(request(round, Tag::Raise, 0)),
+            Some(_) => Ok(request(round, Tag::Fetch, place)),
+        }
+    }
+
+    // What one wants that tells: put of the place with what lies there at home, or swept when all places were put.
+    fn told(&self, round: Round, count: usize, place: usize) -> Result<Letter<K>, Ground>
+        ensures { sent_by result (state_of B.Bank G.Bag self.now) ≡ press (kind_of K.Joinable K.Dated.own) (state_of B.Bank G.Bag self.now) (of_pressed (Pressed.Telling round count place)) }
+    {
+        self.check_round(round)?;
+        if place != count && place >= self.stores.count(round.home) {
+            return Err(Ground::PlaceNotHeld);
+        }
+        self.check_room()?;
+        if place == count {
+            return Ok(request(round, Tag::Swept, 0));
+        }
+        Ok(self.laden(request(round, Tag::Put, place), place))
     }
 }
