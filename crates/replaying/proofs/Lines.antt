@@ -9,7 +9,7 @@ use Rattle.entries.specs.declared.recipe.Recipe.{Recipe}
 use Rattle.machine.specs.States.{State}
 use Rattle.machine.specs.Sweeps.{Sweep}
 use Rattle.lines.specs.Asked.{asked_by}
-use Rattle.report.specs.Reports.{Found, report_line}
+use Rattle.report.specs.Reports.{Found, finding_of, report_line}
 use Rattle.replaying.specs.Replays.{replied, lines_of, replayed}
 use Rattle.replaying.specs.Lines.{IsUnended}
 
@@ -61,10 +61,10 @@ abbrev pub Left : List ℕ → ℕ → State Recipe × List Sweep → List (List
 Left said n x lines = (said ++ (replayed n x lines).0, (replayed n x lines).1)
 
 -- one line more is reported
-pub one_more : (said : List ℕ) (n : ℕ) (x y : State Recipe × List Sweep) (f : Found) (line : List ℕ) (lines : List (List ℕ)) → (f, y) ≡ replied x (asked_by line) → Left (said ++ report_line n f) (suc n) y lines ≡ Left said n x (line ∷ lines)
+pub one_more : (said : List ℕ) (n : ℕ) (x y : State Recipe × List Sweep) (f : Found) (line : List ℕ) (lines : List (List ℕ)) → (f, y) ≡ replied x (asked_by line) → Left (said ++ report_line n (finding_of f)) (suc n) y lines ≡ Left said n x (line ∷ lines)
 one_more said n x y f line lines e =
-    ap (λ (r : Found × (State Recipe × List Sweep)). Left (said ++ report_line n r.0) (suc n) r.1 lines) e
-    ∙ ap (λ zs. (zs, (replayed (suc n) (replied x (asked_by line)).1 lines).1)) (append_assoc said (report_line n (replied x (asked_by line)).0) (replayed (suc n) (replied x (asked_by line)).1 lines).0)
+    ap (λ (r : Found × (State Recipe × List Sweep)). Left (said ++ report_line n (finding_of r.0)) (suc n) r.1 lines) e
+    ∙ ap (λ zs. (zs, (replayed (suc n) (replied x (asked_by line)).1 lines).1)) (append_assoc said (report_line n (finding_of (replied x (asked_by line)).0)) (replayed (suc n) (replied x (asked_by line)).1 lines).0)
 
 -- none is left
 pub none_left : (said : List ℕ) (n : ℕ) (x : State Recipe × List Sweep) → Left said n x (lines_of []) ≡ (said, x)

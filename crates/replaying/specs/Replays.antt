@@ -19,7 +19,7 @@ use Rattle.service.specs.RecipeCalls.{of_recipe_call}
 use Rattle.lines.specs.Asked.{Asked, post, grow, lookup, mail, hand, lose, collect, confirm, begin, press, spread, close, abandon, asked_by}
 use Rattle.report.specs.declared.finding.Gained.{Gained}
 use Rattle.report.specs.declared.finding.Gained.TheVariants as gained
-use Rattle.report.specs.Reports.{Found, report_line}
+use Rattle.report.specs.Reports.{Found, finding_of, report_line}
 
 -- what a refused line comes to: its ground, and no steps
 abbrev pub refused : ℕ → Found
@@ -94,7 +94,7 @@ lines_of (b ∷ bs) = cond (b == 10) ([] ∷ lines_of bs) (onto_first b (lines_o
 abbrev pub replayed : ℕ → State Recipe × List Sweep → List (List ℕ) → List ℕ × (State Recipe × List Sweep)
 replayed n x [] = ([], x)
 replayed n x (line ∷ lines) =
-    let f = replied x (asked_by line) in let r = replayed (suc n) f.1 lines in (report_line n f.0 ++ r.0, r.1)
+    let f = replied x (asked_by line) in let r = replayed (suc n) f.1 lines in (report_line n (finding_of f.0) ++ r.0, r.1)
 
 -- nothing stood against the opening, and the text is the report of the input on the ring just opened
 abbrev pub OpensTo : List (Meaning Recipe) → Letters (Letter Recipe) → List ℕ → List ℕ → Type 0
@@ -110,4 +110,4 @@ at_first = ((opened stores 64).ring, [])
 
 -- the report of an input of at most 60,000 bytes, and of a longer one a single line
 abbrev pub report_of : List ℕ → List ℕ
-report_of input = cond (nat_lt 60000 (length input)) (report_line 0 (refused 1)) (replayed 1 at_first (lines_of input)).0
+report_of input = cond (nat_lt 60000 (length input)) (report_line 0 (finding_of (refused 1))) (replayed 1 at_first (lines_of input)).0

@@ -9,7 +9,7 @@ use entries::Recipe;
 use grounds::Ground;
 use letters::{Bag, Letter};
 use lines::{Request, read_line};
-use report::Finding;
+use report::Outcome;
 use runs::make_call;
 use service::{Call, RecipeCall, Service};
 use std::alloc::AllocError;
@@ -26,7 +26,7 @@ fn latest<B: Bank<Recipe>, G: Bag<Letter<Recipe>>>(service: &Service<Recipe, B, 
 fn called<B: Bank<Recipe>, G: Bag<Letter<Recipe>>>(
     service: &mut Service<Recipe, B, G>,
     call: RecipeCall,
-) -> Result<Finding, AllocError>
+) -> Result<Outcome, AllocError>
     ensures { IfOk result (λ x. (found_of x, serving B.Bank G.Bag service.new) ≡ moved (serving B.Bank G.Bag service.old) (makes call)) }
 {
     Ok(of_answer(make_call(service, call)?))
@@ -37,7 +37,7 @@ fn begun<B: Bank<Recipe>, G: Bag<Letter<Recipe>>>(
     service: &mut Service<Recipe, B, G>,
     copy: usize,
     time: u32,
-) -> Result<Finding, AllocError>
+) -> Result<Outcome, AllocError>
     ensures { IfOk result (λ x. (found_of x, serving B.Bank G.Bag service.new) ≡ replied (serving B.Bank G.Bag service.old) (Some (of_request (Request.Begin copy time)))) }
 {
     if service.is_going(latest(service)) {
@@ -50,7 +50,7 @@ fn begun<B: Bank<Recipe>, G: Bag<Letter<Recipe>>>(
 fn answered<B: Bank<Recipe>, G: Bag<Letter<Recipe>>>(
     service: &mut Service<Recipe, B, G>,
     request: Request,
-) -> Result<Finding, AllocError>
+) -> Result<Outcome, AllocError>
     ensures { IfOk result (λ x. (found_of x, serving B.Bank G.Bag service.new) ≡ replied (serving B.Bank G.Bag service.old) (Some (of_request request))) }
 {
     let sweep = latest(service);
@@ -82,7 +82,7 @@ fn answered<B: Bank<Recipe>, G: Bag<Letter<Recipe>>>(
 pub(crate) fn line_answered<B: Bank<Recipe>, G: Bag<Letter<Recipe>>>(
     service: &mut Service<Recipe, B, G>,
     line: &[u8],
-) -> Result<Finding, AllocError>
+) -> Result<Outcome, AllocError>
     ensures { IfOk result (λ x. (found_of x, serving B.Bank G.Bag service.new) ≡ replied (serving B.Bank G.Bag service.old) (asked_by line.now)) }
 {
     match read_line(line) {

@@ -7,18 +7,18 @@ ghost use Rattle.replaying.specs.Replays.{refused, gained_of, of_answer, of_read
 
 use grounds::Ground;
 use reading::{Answer, Refusal};
-use report::{Finding, Gained};
+use report::{Gained, Outcome};
 use service::Got;
 
 // The types on both sides of these conversions are other crates', so that none of them is an impl of `From`; what is refused
 // is said in the machine's words, which a report does not know.
 
 // What a line comes to that is refused on a ground, without steps.
-pub(crate) fn refused(ground: Ground) -> Finding
+pub(crate) fn refused(ground: Ground) -> Outcome
     ensures { found_of result ≡ refused (ground_number ground) }
 {
-    Finding {
-        outcome: Err(ground),
+    Outcome {
+        answer: Err(ground),
         steps: 0,
     }
 }
@@ -36,26 +36,26 @@ fn gained(got: Got) -> Gained
 }
 
 // What a call comes to, by its answer.
-pub(crate) fn of_answer(answer: Result<Got, Ground>) -> Finding
+pub(crate) fn of_answer(answer: Result<Got, Ground>) -> Outcome
     ensures { found_of result ≡ of_answer (by_got answer) }
 {
-    Finding {
-        outcome: answer.map(gained),
+    Outcome {
+        answer: answer.map(gained),
         steps: 0,
     }
 }
 
 // What a lookup comes to, by its answer.
-pub(crate) fn of_reading(answer: Result<Answer, Refusal>) -> Finding
+pub(crate) fn of_reading(answer: Result<Answer, Refusal>) -> Outcome
     ensures { found_of result ≡ of_reading (reading_of answer) }
 {
     match answer {
-        Ok(answer) => Finding {
-            outcome: Ok(Gained::Content(answer.content)),
+        Ok(answer) => Outcome {
+            answer: Ok(Gained::Content(answer.content)),
             steps: answer.steps,
         },
-        Err(refusal) => Finding {
-            outcome: Err(refusal.ground),
+        Err(refusal) => Outcome {
+            answer: Err(refusal.ground),
             steps: refusal.steps,
         },
     }

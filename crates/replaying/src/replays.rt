@@ -27,7 +27,7 @@ pub fn replay(heap: Global, input: &[u8]) -> Result<String, Trouble>
     if input.len() > LIMIT {
         let line = ReportLine {
             number: 0,
-            finding: refused(Ground::BadLine),
+            finding: refused(Ground::BadLine).into(),
         };
         return Ok(format!(in heap; "{line}")?);
     }

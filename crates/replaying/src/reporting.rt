@@ -21,10 +21,10 @@ pub(crate) fn reported<B: Bank<Recipe>, G: Bag<Letter<Recipe>>>(
 {
     let mut report = String::new(heap);
     'lines: for (before, line) in InputLines(input).enumerate() {
-        let finding = line_answered(service, line)?;
+        let outcome = line_answered(service, line)?;
         let line = ReportLine {
             number: before + 1,
-            finding,
+            finding: outcome.into(),
         };
         write!(report, "{line}")?;
     }

@@ -8,6 +8,7 @@ use Rattle.entries.specs.declared.recipe.Content.TheVariants.{Absent, Node, Numb
 use Rattle.report.specs.declared.finding.Finding.{Finding}
 use Rattle.report.specs.declared.finding.Gained.{Gained}
 use Rattle.report.specs.declared.finding.Gained.TheVariants as gained
+use Rattle.report.specs.declared.finding.Outcome.{Outcome}
 
 -- a content in the letters that a line says it with
 abbrev pub shown_says : Content → List ℕ
@@ -30,19 +31,23 @@ pub record Found : Type 0 where
   pub outcome : Result Gained ℕ
   pub steps : ℕ
 
--- a finding, its ground by number
-abbrev pub found_of : Finding → Found
-found_of x = record { outcome = by_number x.outcome; steps = x.steps }
+-- an outcome, its ground by number
+abbrev pub found_of : Outcome → Found
+found_of x = record { outcome = by_number x.answer; steps = x.steps }
 
 -- the number of the ground; 0 where there is none
 abbrev pub code_of : Result Gained ℕ → ℕ
 code_of (Ok x) = 0
 code_of (Err g) = g
 
--- the end of a line: what was got, nothing where the line was refused, and byte 10
-abbrev pub got_part : Found → List ℕ
-got_part x = codes " got=" ++ (shown_gained (result_unwrap_or x.outcome gained.Nothing) ++ codes "\n")
+-- what the report has of it: the ground or 0, the steps, and what was got, nothing where the line was refused
+abbrev pub finding_of : Found → Finding
+finding_of f = record { code = code_of f.outcome; steps = f.steps; gained = result_unwrap_or f.outcome gained.Nothing }
+
+-- the end of a line: what was got, and byte 10
+abbrev pub got_part : Finding → List ℕ
+got_part x = codes " got=" ++ (shown_gained x.gained ++ codes "\n")
 
 -- a line of the report: its number, the ground or 0, the steps, and what was got
-abbrev pub report_line : ℕ → Found → List ℕ
-report_line n x = codes "no=" ++ (decimal n ++ (codes " code=" ++ (decimal (code_of x.outcome) ++ (codes " count=" ++ (decimal x.steps ++ got_part x)))))
+abbrev pub report_line : ℕ → Finding → List ℕ
+report_line n x = codes "no=" ++ (decimal n ++ (codes " code=" ++ (decimal x.code ++ (codes " count=" ++ (decimal x.steps ++ got_part x)))))

@@ -1,5 +1,5 @@
-ghost use Rattle.std.specs.Prelude.{Some};
-ghost use Rattle.report.specs.Reports.{shown_gained};
+ghost use Rattle.std.specs.Prelude.{◌≡◌, Some};
+ghost use Rattle.report.specs.Reports.{shown_gained, found_of, finding_of};
 
 use crate::says::Says;
 use entries::Content;
@@ -42,7 +42,30 @@ impl fmt::Display for Gained {
 
 // What a line of a replay came to: what it got or the ground of its refusal, and the steps of a lookup or else 0.
 #[derive(Clone, Copy, Debug, PartialEq, Eq)]
-pub struct Finding {
-    pub outcome: Result<Gained, Ground>,
+pub struct Outcome {
+    pub answer: Result<Gained, Ground>,
     pub steps: u32,
+}
+
+// What a line of a replay came to, as the report has it: its ground or 0, the steps of a lookup or else 0, and what it got.
+// The code is a number, since a report prints whatever code it is given, beside whatever was got.
+#[derive(Clone, Copy, Debug, PartialEq, Eq)]
+pub struct Finding {
+    pub code: u8,
+    pub steps: u32,
+    pub gained: Gained,
+}
+
+// The code of a refusal is its ground's number, and a refused line got nothing.
+impl From<Outcome> for Finding {
+    ghost from_gives = { λ outcome finding. finding ≡ finding_of (found_of outcome) };
+
+    fn from(outcome: Outcome) -> Finding {
+        let Outcome { answer, steps } = outcome;
+        Self {
+            code: answer.err().map_or(0, Ground::number),
+            steps,
+            gained: answer.unwrap_or(Gained::Nothing),
+        }
+    }
 }

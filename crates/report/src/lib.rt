@@ -6,6 +6,6 @@ mod finding;
 mod line;
 mod says;
 
-pub use finding::{Finding, Gained};
+pub use finding::{Finding, Gained, Outcome};
 pub use line::ReportLine;
 pub use says::Says;

@@ -1,8 +1,7 @@
 ghost use Rattle.std.specs.Prelude.{Some};
-ghost use Rattle.report.specs.Reports.{found_of, report_line};
+ghost use Rattle.report.specs.Reports.{report_line};
 
-use crate::finding::{Finding, Gained};
-use grounds::Ground;
+use crate::finding::Finding;
 use std::fmt;
 
 // A line of a report: the number of the line that was read, from 1, and what it came to.
@@ -14,13 +13,13 @@ pub struct ReportLine {
 
 // `no=3 code=0 count=2 got=n640`, and byte 10.
 impl fmt::Display for ReportLine {
-    ghost output = { λ x. Some (report_line x.number (found_of x.finding)) };
+    ghost output = { λ x. Some (report_line x.number x.finding) };
 
     fn fmt<W: fmt::Write>(&self, f: &mut fmt::Formatter<W>) -> fmt::Result {
         let number = self.number;
-        let Finding { outcome, steps } = self.finding;
-        let code = outcome.err().map_or(0, Ground::number);
-        let got = outcome.unwrap_or(Gained::Nothing);
+        let code = self.finding.code;
+        let steps = self.finding.steps;
+        let got = self.finding.gained;
         writeln!(f, "no={number} code={code} count={steps} got={got}")
     }
 }
