@@ -1,22 +1,53 @@
--- What the library parses as a number, and what a number's text is. Assumes nothing.
-use Rattle.std.proofs.Common.{◌≡◌, ℕ, ◌^◌, ◌<◌, Bool, true, false, cond, not, ◌&&◌, eqb, ltb, List, [], ◌∷◌, length, get_or, Some, None, Ok, Err, Result, decimal, sym, refl, ap, ◌∙◌, arith, rules}
+-- The steps of a loop that reads a number digit by digit, and what a number's text is. Assumes nothing.
+use Rattle.std.proofs.Common.{◌≡◌, ℕ, ◌+◌, ◌-◌, ◌*◌, ◌^◌, ◌<◌, ◌≤◌, Bool, true, false, cond, ◌&&◌, eqb, ltb, List, [], ◌∷◌, length, get_or, drop, Some, None, decimal, sym, refl, ap, ◌∙◌, arith, rules}
 use Rattle.std.proofs.lemmas.Fmt.{decimal-digits_value, digits_value-decimal, digits_decimal, decimal_nonempty, decimal_digit, first_decimal}
-use Rattle.std.proofs.lemmas.Str.{IsUtf8-from_ascii}
-use Rattle.std.proofs.lemmas.Str.Ascii.{IsAscii-nil, IsAscii-cons}
-use Rattle.std.proofs.lemmas.Str.Parse.{IsNumeralModel, numerals_by_fold, tells_all_ascii_digits, parse_plain}
-use Rattle.std.proofs.lemmas.Bool.{lt-ltb, leb-true, ltb-true, eqb-true, eqb-false, eq-eqb, ne_eqb, and_from, and_parts, not-true, not_from_false, both_ways}
+use Rattle.std.proofs.lemmas.List.{at_drop_more, at_drop_all}
+use Rattle.std.proofs.lemmas.Str.Parse.{IsNumeralModel, numerals_by_fold, tells_all_ascii_digits}
+use Rattle.std.proofs.lemmas.Bool.{lt-ltb, le-ltb, ltb-true, eqb-true, eqb-false, eq-eqb, ne_eqb, and_from, and_parts, not-true, not_from_false, both_ways}
 use Rattle.std.specs.Char.{is_ascii_digit}
-use Rattle.std.specs.Result.{OkIff, result_ok}
-use Rattle.std.specs.Str.{all_ascii_digits, IsAscii, IsUtf8}
-use Rattle.std.specs.Str.Parse.{ParsesUnsigned}
+use Rattle.std.specs.Str.{all_ascii_digits}
 use Rattle.lines.specs.Laws.{NumbersInDecimal}
 use Rattle.lines.specs.Numbers.{unpadded, value_after, read_number}
+
+-- further digits never make the number smaller
+value_least : (n : ℕ) (bs : List ℕ) → n ≤ value_after n bs
+value_least n [] = omega arith
+value_least n (b ∷ bs) = omega (arith, value_least (n * 10 + (b - 48)) bs)
+
+and_false : (a b : Bool) → b ≡ false → (a && b) ≡ false
+and_false true b e = e
+and_false false b e = refl
 
 none_when : (t : Bool) (n : ℕ) → t ≡ false → None ≡ cond t (Some n) None
 none_when t n e = sym (ap (λ s. cond s (Some n) None) e)
 
 some_when : (t : Bool) (m n : ℕ) → t ≡ true → m ≡ n → Some m ≡ cond t (Some n) None
 some_when t m n e s = ap Some s ∙ sym (ap (λ u. cond u (Some n) None) e)
+
+module _ (bs : List ℕ) (i n : ℕ) (value : value_after n (drop i bs) ≡ value_after 0 bs) (digits : all_ascii_digits (drop i bs) ≡ all_ascii_digits bs) where
+  value_on : i < length bs → value_after (n * 10 + (get_or bs i 0 - 48)) (drop (i + 1) bs) ≡ value_after 0 bs
+  value_on low = sym (at_drop_more (value_after n) bs i 0 low) ∙ value
+
+  digits_on : i < length bs → (is_ascii_digit (get_or bs i 0) && all_ascii_digits (drop (i + 1) bs)) ≡ all_ascii_digits bs
+  digits_on low = sym (at_drop_more all_ascii_digits bs i 0 low) ∙ digits
+
+  pub number_no_digit : i < length bs → is_ascii_digit (get_or bs i 0) ≡ false → None ≡ read_number bs
+  number_no_digit low no' =
+      let none : all_ascii_digits bs ≡ false = sym (digits_on low) ∙ ap (λ t. t && all_ascii_digits (drop (i + 1) bs)) no' in
+      none_when _ _ (ap (λ t. t && ltb (value_after 0 bs) (2 ^ 32)) (and_false (unpadded bs) (all_ascii_digits bs) none))
+
+  pub number_too_large : i < length bs → 2 ^ 32 ≤ n * 10 + (get_or bs i 0 - 48) → None ≡ read_number bs
+  number_too_large low large =
+      let most : 2 ^ 32 ≤ value_after 0 bs = omega (arith, value_least (n * 10 + (get_or bs i 0 - 48)) (drop (i + 1) bs), value_on low) in
+      none_when _ _ (and_false (unpadded bs && all_ascii_digits bs) _ (le-ltb (value_after 0 bs) (2 ^ 32) most))
+
+  pub number_more : i < length bs → is_ascii_digit (get_or bs i 0) ≡ true → n * 10 + (get_or bs i 0 - 48) < 2 ^ 32 → (value_after (n * 10 + (get_or bs i 0 - 48)) (drop (i + 1) bs) ≡ value_after 0 bs) × (all_ascii_digits (drop (i + 1) bs) ≡ all_ascii_digits bs) × (n * 10 + (get_or bs i 0 - 48) < 2 ^ 32)
+  number_more low yes' small = (value_on low, sym (ap (λ t. t && all_ascii_digits (drop (i + 1) bs)) yes') ∙ digits_on low, small)
+
+  pub number_all : length bs ≤ i → n < 2 ^ 32 → unpadded bs ≡ true → Some n ≡ read_number bs
+  number_all past small plain =
+      let is : n ≡ value_after 0 bs = sym (at_drop_all (value_after n) bs i past) ∙ value in
+      some_when _ _ _ (and_from _ _ (and_from _ _ plain (sym digits ∙ at_drop_all all_ascii_digits bs i past)) (lt-ltb (value_after 0 bs) (2 ^ 32) (omega arith))) is
 
 -- the digits and the value of the specification are those of decimal writing
 numerals : IsNumeralModel (λ ds. all_ascii_digits ds ≡ true) (value_after 0)
@@ -25,36 +56,6 @@ numerals = numerals_by_fold _ tells_all_ascii_digits value_after (search rules)
 unpadded_some : (bs : List ℕ) → unpadded bs ≡ true → 0 < length bs
 unpadded_some [] h = absurd (both_ways false refl h)
 unpadded_some (b ∷ bs) h = omega arith
-
-digits_ascii : (bs : List ℕ) → all_ascii_digits bs ≡ true → IsAscii bs
-digits_ascii [] h = IsAscii-nil
-digits_ascii (b ∷ bs) h =
-    let p : (is_ascii_digit b ≡ true) × (all_ascii_digits bs ≡ true) = and_parts _ _ h in
-    IsAscii-cons b bs (omega (arith, leb-true b 57 (and_parts _ _ p.0).1)) (digits_ascii bs p.1)
-
--- what is no text is no number
-pub no_text : (bs : List ℕ) → (IsUtf8 bs → ⊥) → None ≡ read_number bs
-no_text bs no' = go (unpadded bs) (all_ascii_digits bs) (λ h. no' (IsUtf8-from_ascii bs (digits_ascii bs h)))
-  where
-    go : (t u : Bool) → (u ≡ true → ⊥) → None ≡ cond (t && u && ltb (value_after 0 bs) (2 ^ 32)) (Some (value_after 0 bs)) None
-    go t true h = absurd (h refl)
-    go true false h = refl
-    go false false h = refl
-
--- what the library parses of a text with no padding and no sign is the number of the specification
-pub parsed : {E : Type 0} (bs : List ℕ) (r : Result ℕ E) → (unpadded bs && not (eqb (get_or bs 0 0) 43)) ≡ true → ParsesUnsigned 32 10 bs r → result_ok r ≡ read_number bs
-parsed {E} bs r plain h = go r (parse_plain numerals 32 bs r h (λ e. both_ways _ (not-true _ (and_parts _ _ plain).1) (eq-eqb _ 43 e)))
-  where
-    fails : (t : Bool) → (unpadded bs && all_ascii_digits bs && ltb (value_after 0 bs) (2 ^ 32)) ≡ t → ((all_ascii_digits bs ≡ true) × (0 < length bs) × (value_after 0 bs < 2 ^ 32) → ⊥) → t ≡ false
-    fails true e no' =
-        let p = and_parts _ _ e in
-        let q = and_parts _ _ p.0 in
-        absurd (no' (q.1, unpadded_some bs q.0, ltb-true _ _ p.1))
-    fails false e no' = refl
-
-    go : (r : Result ℕ E) → OkIff r ((all_ascii_digits bs ≡ true) × (0 < length bs) × (value_after 0 bs < 2 ^ 32)) (value_after 0 bs) → result_ok r ≡ read_number bs
-    go (Ok x) q = some_when _ _ _ (and_from _ _ (and_from _ _ (and_parts _ _ plain).0 q.0.0) (lt-ltb _ _ q.0.2)) q.1
-    go (Err e) no' = none_when _ _ (fails _ refl no')
 
 -- a text with no padding is one zero, or begins with another digit
 unpadded_first : (bs : List ℕ) → unpadded bs ≡ true → get_or bs 0 0 ≡ 48 → length bs ≡ 1

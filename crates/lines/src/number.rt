@@ -1,24 +1,30 @@
-ghost use Rattle.std.specs.Prelude.{◌≡◌, ◌==◌, ◌&&◌, not, slice_index};
+ghost use Rattle.std.specs.Prelude.{◌≡◌};
 ghost use Rattle.lines.specs.Numbers.{unpadded, read_number};
 
-use std::str;
-
-// Whether there is a byte, no zero leads others, and no plus sign leads, which the library would take for a number's.
-fn is_plain(text: &[u8]) -> bool
-    ensures { result ≡ (unpadded text.now && not (slice_index text.now 0 == 43)) }
+// Whether there is a byte, and no zero leads others.
+fn is_unpadded(text: &[u8]) -> bool
+    ensures { result ≡ unpadded text.now }
 {
     match text {
-        [] | [b'0', _, ..] | [b'+', ..] => false,
+        [] | [b'0', _, ..] => false,
         _ => true,
     }
 }
 
-// Reads a number below 2^32 from its decimal digits; none for any other text.
+// Reads a decimal number below 2^32 without leading zeros. Byte by byte: the library parses a text, which would first be
+// gone through to see that it is one, and every line has numbers.
 pub(crate) fn read_number(text: &[u8]) -> Option<u32>
     ensures { result ≡ read_number text.now }
 {
-    if !is_plain(text) {
+    if !is_unpadded(text) {
         return None;
     }
-    str::from_utf8(text).ok()?.parse().ok()
+    let mut value: u32 = 0;
+    'digits: for byte in text {
+        if !byte.is_ascii_digit() {
+            return None;
+        }
+        value = u32::try_from(u64::from(value) * 10 + u64::from(*byte - b'0')).ok()?;
+    }
+    Some(value)
 }

@@ -1,15 +1,15 @@
-use Rattle.std.proofs.Common.{◌≡◌, true, not, ◌&&◌, eqb, get_or, rules, ◌∙◌}
-use Rattle.lines.specs.Numbers.{unpadded}
-use Rattle.lines.proofs.Digits.{no_text, parsed}
+use Rattle.std.proofs.Common.{◌+◌, ◌-◌, ◌*◌, ◌^◌, ◌≤◌, get_or, ◌∙◌, arith, rules}
+use Rattle.std.proofs.lemmas.Grind.{common_steps}
+use Rattle.lines.proofs.Digits.{number_no_digit, number_too_large, number_all}
 use Rattle.lines.proofs.number.read_number.Goals as goal
 
-pub returns-in_err-ok : goal.returns-in_err-ok
-returns-in_err-ok c = search (rules, no_text)
+pub returns-then-not-is_ascii_digit : goal.returns-then-not-is_ascii_digit
+returns-then-not-is_ascii_digit c = search (rules, number_no_digit)
+
+pub returns-in_err-value : goal.returns-in_err-value
+returns-in_err-value c =
+    let large : 2 ^ 32 ≤ c.digits.value * 10 + (get_or c.args.text.now c.digits.byte-index 0 - 48) = grind (arith, common_steps) in
+    c.from_residual.ensures ∙ number_too_large _ _ _ c.digits.invariant.0 c.digits.invariant.1 c.digits-test.true large
 
 pub returns : goal.returns
-returns c =
-    let text = c.args.text.now in
-    let plain : (unpadded text && not (eqb (get_or text 0 0) 43)) ≡ true = search rules in
-    let same : c.in_ok-ok.field-0.now ≡ text = search rules in
-    let h = c.parse.ensures.value.0 in
-    c.ok-2.ensures.value ∙ parsed text _ plain (rw same at h)
+returns c = search (rules, number_all)
