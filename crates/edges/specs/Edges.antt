@@ -1,5 +1,5 @@
 -- The edge cases of the rules: what the definitions that the contracts cite give, and what is due. Assumes nothing.
-use Rattle.std.specs.Prelude.{◌≡◌, ℕ, zero, suc, Bool, true, false, List, [], ◌∷◌, take, Some, None, Ok, Err, codes, Option, Result}
+use Rattle.std.specs.Prelude.{◌≡◌, ℕ, zero, suc, Bool, true, false, List, [], ◌∷◌, Some, None, Ok, Err, codes, Option, Result}
 use Rattle.std.specs.Option.{unwrap_or}
 use Rattle.names.specs.declared.label.Label.{Label}
 use Rattle.names.specs.declared.path.Path.{Path}
@@ -9,6 +9,7 @@ use Rattle.entries.specs.declared.recipe.Content.{Content}
 use Rattle.entries.specs.declared.recipe.Content.TheVariants.{Node, Number, Link}
 use Rattle.entries.specs.declared.recipe.Recipe.{Recipe}
 use Rattle.entries.specs.Recipes.{join_recipes, blank_recipe}
+use Rattle.lent.specs.Held.{held_in}
 use Rattle.store.specs.Meaning.{Meaning, empty_store, join_answer, join_of}
 use Rattle.store.specs.Laws.{entry_of}
 use Rattle.table.specs.Slots as table
@@ -124,7 +125,7 @@ join_in m p e = leaves (join_answer m p) (join_of join_recipes m p e)
 
 -- a table of one slot, of which the first n are used, with an entry of that stamp under rye
 abbrev pub table_of_one : ℕ → ℕ → Meaning Recipe
-table_of_one n stamp = table.slots_meaning (record { items = take n (record { path = rye; entry = node_at stamp } ∷ []); places = 1 })
+table_of_one n stamp = table.slots_meaning (held_in n (record { path = rye; entry = node_at stamp } ∷ []))
 
 -- a slot of a log with an entry of that stamp under rye
 abbrev pub taken : ℕ → LogSlot Recipe
@@ -136,7 +137,7 @@ free = record { path = no_path; entry = blank_recipe; place = 0 }
 
 -- a log of two slots, of which the first n are used
 abbrev pub log_of_two : ℕ → LogSlot Recipe → LogSlot Recipe → Meaning Recipe
-log_of_two n a b = log.slots_meaning join_recipes (record { items = take n (a ∷ b ∷ []); places = 2 })
+log_of_two n a b = log.slots_meaning join_recipes (held_in n (a ∷ b ∷ []))
 
 -- the edge cases in the order of the rules, each with what is due
 abbrev pub edge_cases : List Case

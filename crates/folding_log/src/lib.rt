@@ -18,6 +18,7 @@ pub use slot::LogSlot;
 pub struct Log<'a, K> {
     slots: Lent<'a, LogSlot<K>>,
     held: usize,
+    ghost fits: { length slots.items ≤ slots.places },
     ghost half: { held ≤ slots.places / 2 },
     ghost counted: { held ≡ length (arrivals slots.items) },
     ghost numbered: { placed (arrivals slots.items) slots.items ≡ true },

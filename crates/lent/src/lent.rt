@@ -12,12 +12,12 @@ pub struct Lent<'a, T> {
 }
 
 impl<'a, T> Model for Lent<'a, T> {
-    ghost use Rattle.std.specs.Prelude.{◌≤◌, length, take};
-    ghost use Rattle.lent.specs.Held.{Held};
+    ghost use Rattle.std.specs.Prelude.{◌≤◌, length};
+    ghost use Rattle.lent.specs.Held.{Held, held_in};
 
     ghost Value = { Held T };
 
-    ghost view = { λ l. record { items = take l.used l.slots.now; places = length l.slots.now } };
+    ghost view = { λ l. held_in l.used l.slots.now };
 
     ghost invariant = { λ l. l.used ≤ length l.slots.now };
 }

@@ -1,6 +1,8 @@
 // The tray: a bag of letters in memory that the caller lends.
 #![tactic(auto)]
 
+ghost use Rattle.std.specs.Prelude.{◌≤◌, length};
+
 mod tray_bag;
 
 use lent::Lent;
@@ -9,4 +11,5 @@ use lent::Lent;
 #[derive(Drop)]
 pub struct Tray<'a, L> {
     letters: Lent<'a, L>,
+    ghost fits: { length letters.items ≤ letters.places },
 }

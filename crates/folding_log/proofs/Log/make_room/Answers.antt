@@ -9,6 +9,7 @@ invariant_of-self g c =
     let j = g.K.Joinable.joined in
     let ss = c.fold.new.slots.items in
     record {
+      fits = omega (arith, folded_length j t.slots.items ss c.fold.ensures.pairs, t.counted, t.half, c.fold.ensures.places);
       half = subst (λ n. t.held ≤ n / 2) (sym c.fold.ensures.places) t.half;
       counted = t.counted ∙ sym (ap length (folded_arrivals j t.slots.items ss c.fold.ensures.pairs));
       numbered = ap (λ qs. placed qs ss) (folded_paths j t.slots.items ss c.fold.ensures.pairs) ∙ c.fold.ensures.numbered;

@@ -1,5 +1,6 @@
-use Rattle.std.proofs.Common.{get_or, sym, ap, ◌∙◌, rules}
+use Rattle.std.proofs.Common.{get_or, sym, ap, ◌∙◌, rules, arith}
 use Rattle.std.proofs.lemmas.Bool.{cond-false}
+use Rattle.std.proofs.lemmas.Grind.{common_steps}
 use Rattle.store.proofs.Pairs.{held_not_full}
 use Rattle.store.specs.Meaning.{place_of}
 use Rattle.table.specs.Slots.{slots_meaning}
@@ -35,10 +36,12 @@ returns-in-Some g c =
 pub invariant_of-self-in-None : goal.invariant_of-self-in-None
 invariant_of-self-in-None g c =
     let t = c.args.self.now in
-    record { sound = still_sound g.K.Joinable.joined t.slots c.args.path c.args.entry (slots_meaning c.push.new.self) t.sound (ap slots_meaning c.push.ensures.after ∙ pushed_on g.K.Joinable.joined t.slots c.args.path c.args.entry t.sound c.in-None.ensures) }
+    let pushed = pushed_on g.K.Joinable.joined t.slots c.args.path c.args.entry t.sound c.in-None.ensures in
+    record { sound = still_sound g.K.Joinable.joined t.slots c.args.path c.args.entry _ t.sound (grind (arith, common_steps, pushed)) }
 
 pub returns-in-None : goal.returns-in-None
 returns-in-None g c =
     let t = c.args.self.now in
     let full = full_is t.slots c.args.path t.sound c.in-None.ensures in
-    record { answer = search rules; after = ap slots_meaning c.push.ensures.after ∙ pushed_on g.K.Joinable.joined t.slots c.args.path c.args.entry t.sound c.in-None.ensures }
+    let pushed = pushed_on g.K.Joinable.joined t.slots c.args.path c.args.entry t.sound c.in-None.ensures in
+    record { answer = search rules; after = grind (arith, common_steps, pushed) }
