@@ -1,6 +1,7 @@
 -- The laws of what is shown, by which alone the other proofs use it. Assumes nothing.
-use Rattle.std.proofs.Common.{◌≡◌, ℕ, zero, suc, ◌<◌, ◌≤◌, Bool, true, ◌↔◌, is_some, Some, None, Option, sym, refl, ap, ◌∙◌, arith}
+use Rattle.std.proofs.Common.{◌≡◌, ℕ, zero, suc, ◌<◌, ◌≤◌, Bool, true, ◌↔◌, is_some, Some, None, Decides, Option, sym, refl, ap, ◌∙◌, arith}
 use Rattle.std.specs.Option.{option_map}
+use Rattle.std.proofs.lemmas.Bool.{leb-true, le-leb}
 use Rattle.std.proofs.lemmas.Bool.Decides.{nat_tests}
 use Rattle.std.proofs.lemmas.Grind.{common_steps}
 use Rattle.names.specs.declared.path.Path.{Path}
@@ -8,7 +9,7 @@ use Rattle.names.specs.Paths.{parent_of, depth}
 use Rattle.entries.specs.declared.recipe.Content.{Content}
 use Rattle.entries.specs.declared.recipe.Content.TheVariants.{Absent}
 use Rattle.entries.specs.declared.recipe.Recipe.{Recipe}
-use Rattle.reading.specs.Shown.{Look, unless_absent, below, below_path, shown_within, shown_entry, shown, content_shown}
+use Rattle.reading.specs.Shown.{Look, unless_absent, belongs, below, below_path, shown_within, shown_entry, shown, content_shown}
 use Rattle.reading.specs.Rules.{Belongs, Shows, Shows.alone, Shows.under, Holds}
 
 -- no path has more than three labels, and one of one label has no parent
@@ -26,6 +27,10 @@ parent_lower p q h = grind (arith, nat_tests)
 present_was : (o : Option Recipe) (e : Recipe) → unless_absent o ≡ Some e → (o ≡ Some e) × (e.content ≡ Absent → ⊥)
 present_was None e h = cc
 present_was (Some d) e h = grind (arith, common_steps)
+
+-- the test that the code makes says exactly what the rules say of an entry and the one above it
+belongs_exactly : (above e : Recipe) → Decides (belongs above e) (Belongs above e)
+belongs_exactly above e = (leb-true above.stamp e.stamp, le-leb above.stamp e.stamp)
 
 below_was : (u o : Option Recipe) (e : Recipe) → below u o ≡ Some e → (above : Recipe) × (u ≡ Some above) × Belongs above e × (o ≡ Some e)
 below_was None o e h = cc
@@ -55,7 +60,7 @@ shown_rule f p = go (parent_of p) refl
 -- what the rules show is what `shown_entry` gives, and no more
 pub shows_shown : (f : Look) (p : Path) (e : Recipe) → Shows f p e → shown_entry f p ≡ Some e
 shows_shown f p e (alone h live top) = let r = shown_rule f p in grind (arith, common_steps)
-shows_shown f p e (under h live q up above s low) = let r = shown_rule f p in let u = shows_shown f q above s in grind (arith, nat_tests, common_steps)
+shows_shown f p e (under h live q up above s low) = let r = shown_rule f p in let u = shows_shown f q above s in let b = (belongs_exactly above e).1 low in grind (arith, nat_tests, common_steps)
 
 within_shows : (f : Look) (k : ℕ) (p : Path) (e : Recipe) → depth p ≤ suc k → shown_within k f p ≡ Some e → Shows f p e
 within_shows f zero p e d h = let w = present_was (f p) e h in alone w.0 w.1 (no_parent p d)
