@@ -12,7 +12,7 @@ fn is_unpadded(text: &[u8]) -> bool
 }
 
 // Reads a decimal number below 2^32 without leading zeros. Byte by byte: the library parses a text, which would first be
-// gone through to see that it is one, and every line has numbers.
+// gone through to see that it is one, and most lines have numbers.
 pub(crate) fn read_number(text: &[u8]) -> Option<u32>
     ensures { result ≡ read_number text.now }
 {
